@@ -1,0 +1,10 @@
+pub mod Lists
+pub mod Counting
+pub mod Permutations
+pub mod Reachability
+pub mod Matchings
+pub mod Hall
+pub mod Paths
+pub mod Walks
+pub mod Blocks
+pub mod Edits
