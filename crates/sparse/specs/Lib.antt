@@ -1,0 +1,5 @@
+pub mod Limits
+pub mod Buffers
+pub mod Matrix
+pub mod Refusals
+pub mod Parts

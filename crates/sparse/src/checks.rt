@@ -1,0 +1,206 @@
+// The checks of a pattern, in the table's order. Each equals its row of the table, for any slices that the checks before it let through.
+ghost use mathlib.Core.Path.{_≡_};
+ghost use Prim.Native.Nat.{_+_, _-_, _<_, _≤_};
+ghost use mathlib.Core.Bool.{_||_, not};
+ghost use lib.Dec.{ltb, eqb};
+ghost use lib.ListN.{length, getD};
+ghost use Rattle.graph.specs.Counting.{first, some};
+ghost use Rattle.sparse.specs.Limits.{maxSize, maxEntries};
+ghost use Rattle.sparse.specs.Matrix.{Shaped, RowsBelow};
+ghost use Rattle.sparse.specs.Refusals.{tooLarge, misshapen, rowOutside, repeatedRow, emptyColumn, fallsAt, outsideAt, emptyAt};
+ghost use Rattle.sparse.specs.Parts.{ZeroBelow, Unmarked, Scanned, marked};
+use super::Checked;
+use super::MAX_ENTRIES;
+use super::MAX_SIZE;
+use super::refuse;
+use super::refuse_if;
+use super::slices::by_row;
+use super::slices::get;
+use super::slices::put_by_row;
+use super::slices::row_at;
+
+pub fn or(a: bool, b: bool) -> bool
+    ensures { λ r. ⌜ r ≡ (a || b) ⌝ }
+{
+    a | b
+}
+
+// Whether a buffer is shorter than its need.
+pub fn is_short(len: usize, need: u32) -> bool
+    ensures { λ r. ⌜ r ≡ ltb len need ⌝ }
+{
+    len < need as usize
+}
+
+// Refusal 1.
+pub fn check_size(size: u32, rows: &[u32]) -> Checked
+    ensures { λ r. ⌜ r ≡ tooLarge size (now (rows .entry)) ⌝ }
+{
+    refuse_if(1, or(MAX_SIZE < size, (MAX_ENTRIES as usize) < rows.len()))
+}
+
+// Whether some column starts after the next one does. Like its two fellows below it goes through without a branch: nearly every
+// input passes, and a place is looked for only where there is one.
+fn any_falls(size: u32, starts: &[u32]) -> bool
+    requires { ⌜ (length (now starts) ≡ size + 1) × (size ≤ maxSize) ⌝ }
+    ensures { λ r. ⌜ r ≡ some (fallsAt (now (starts .entry))) size ⌝ }
+{
+    let mut found = false;
+    let mut c = 0u32;
+    while c < size {
+        found = or(get(starts, c + 1) < get(starts, c), found);
+        c += 1;
+    }
+    found
+}
+
+// Refusal 2.
+pub fn check_shape(size: u32, starts: &[u32], rows: &[u32]) -> Checked
+    requires { ⌜ (size ≤ maxSize) × (length (now rows) ≤ maxEntries) ⌝ }
+    ensures { λ r. ⌜ r ≡ misshapen size (now (starts .entry)) (now (rows .entry)) ⌝ }
+{
+    if starts.len() != size as usize + 1 {
+        return refuse(2, 0);
+    }
+    let from = get(starts, 0) != 0;
+    let to = get(starts, size) != rows.len() as u32;
+    refuse_if(2, or(or(from, any_falls(size, starts)), to))
+}
+
+fn any_outside(size: u32, rows: &[u32]) -> bool
+    requires { ⌜ length (now rows) ≤ maxEntries ⌝ }
+    ensures { λ r. ⌜ r ≡ some (outsideAt size (now (rows .entry))) (length (now (rows .entry))) ⌝ }
+{
+    let mut found = false;
+    let mut k = 0u32;
+    while k < rows.len() as u32 {
+        found = or(size <= get(rows, k), found);
+        k += 1;
+    }
+    found
+}
+
+fn first_outside(size: u32, rows: &[u32]) -> u32
+    requires { ⌜ length (now rows) ≤ maxEntries ⌝ }
+    ensures { λ r. ⌜ r ≡ first (outsideAt size (now (rows .entry))) (length (now (rows .entry))) ⌝ }
+{
+    let mut k = 0u32;
+    while k < rows.len() as u32 {
+        if size <= get(rows, k) {
+            return k;
+        }
+        k += 1;
+    }
+    k
+}
+
+// Refusal 3.
+pub fn check_rows(size: u32, rows: &[u32]) -> Checked
+    requires { ⌜ length (now rows) ≤ maxEntries ⌝ }
+    ensures { λ r. ⌜ r ≡ rowOutside size (now (rows .entry)) ⌝ }
+{
+    if any_outside(size, rows) {
+        return refuse(3, first_outside(size, rows));
+    }
+    Checked::Passed
+}
+
+// Marks the rows from place lo on, up to the first that is marked already, and says where that stands, or hi.
+fn mark(rows: &[u32], lo: u32, hi: u32, marks: &mut [u32]) -> u32
+    requires { ⌜ (lo ≤ hi) × (hi ≤ length (now rows)) × RowsBelow (now rows) (length (now marks)) ⌝ }
+    requires { ⌜ Unmarked (now rows) (now marks) ⌝ }
+    ensures { λ r. ⌜ Scanned (now (rows .entry)) lo hi r ⌝ }
+    ensures { λ r. ⌜ now (marks .exit) ≡ marked (now (rows .entry)) 1 lo (r - lo) (now (marks .entry)) ⌝ }
+{
+    let mut k = lo;
+    while k < hi {
+        let row = row_at(rows, k);
+        if by_row(marks, row) != 0 {
+            return k;
+        }
+        put_by_row(marks, row, 1);
+        k += 1;
+    }
+    k
+}
+
+// Takes the marks of the rows lo..hi away.
+fn unmark(rows: &[u32], lo: u32, hi: u32, marks: &mut [u32])
+    requires { ⌜ (lo ≤ hi) × (hi ≤ length (now rows)) × RowsBelow (now rows) (length (now marks)) ⌝ }
+    ensures { λ _. ⌜ now (marks .exit) ≡ marked (now (rows .entry)) 0 lo (hi - lo) (now (marks .entry)) ⌝ }
+{
+    let mut k = lo;
+    while k < hi {
+        put_by_row(marks, row_at(rows, k), 0);
+        k += 1;
+    }
+}
+
+// The first place of lo..hi whose row stands before it there, or hi. The marks are as they were.
+pub fn find_repeat(rows: &[u32], lo: u32, hi: u32, marks: &mut [u32]) -> u32
+    requires { ⌜ (lo ≤ hi) × (hi ≤ length (now rows)) × RowsBelow (now rows) (length (now marks)) ⌝ }
+    requires { ⌜ Unmarked (now rows) (now marks) ⌝ }
+    ensures { λ r. ⌜ Scanned (now (rows .entry)) lo hi r ⌝ }
+    ensures { λ r. ⌜ now (marks .exit) ≡ now (marks .entry) ⌝ }
+{
+    let k = mark(rows, lo, hi, marks);
+    unmark(rows, lo, k, marks);
+    k
+}
+
+// Refusal 4, with marks for the rows that are zero, and are zero again afterwards.
+pub fn check_repeats(size: u32, starts: &[u32], rows: &[u32], marks: &mut [u32]) -> Checked
+    requires { ⌜ Shaped size (now starts) (now rows) × RowsBelow (now rows) size ⌝ }
+    requires { ⌜ (size ≤ length (now marks)) × ZeroBelow size (now marks) ⌝ }
+    ensures { λ r. ⌜ r ≡ repeatedRow size (now (starts .entry)) (now (rows .entry)) ⌝ }
+    ensures { λ r. ⌜ now (marks .exit) ≡ now (marks .entry) ⌝ }
+{
+    let mut c = 0u32;
+    while c < size {
+        let hi = get(starts, c + 1);
+        let k = find_repeat(rows, get(starts, c), hi, marks);
+        if k < hi {
+            return refuse(4, k);
+        }
+        c += 1;
+    }
+    Checked::Passed
+}
+
+fn any_empty(size: u32, starts: &[u32]) -> bool
+    requires { ⌜ (length (now starts) ≡ size + 1) × (size ≤ maxSize) ⌝ }
+    ensures { λ r. ⌜ r ≡ some (emptyAt (now (starts .entry))) size ⌝ }
+{
+    let mut found = false;
+    let mut c = 0u32;
+    while c < size {
+        found = or(get(starts, c + 1) <= get(starts, c), found);
+        c += 1;
+    }
+    found
+}
+
+fn first_empty(size: u32, starts: &[u32]) -> u32
+    requires { ⌜ (length (now starts) ≡ size + 1) × (size ≤ maxSize) ⌝ }
+    ensures { λ r. ⌜ r ≡ first (emptyAt (now (starts .entry))) size ⌝ }
+{
+    let mut c = 0u32;
+    while c < size {
+        if get(starts, c + 1) <= get(starts, c) {
+            return c;
+        }
+        c += 1;
+    }
+    c
+}
+
+// Refusal 8.
+pub fn check_columns(size: u32, starts: &[u32]) -> Checked
+    requires { ⌜ (length (now starts) ≡ size + 1) × (size ≤ maxSize) ⌝ }
+    ensures { λ r. ⌜ r ≡ emptyColumn size (now (starts .entry)) ⌝ }
+{
+    if any_empty(size, starts) {
+        return refuse(8, first_empty(size, starts));
+    }
+    Checked::Passed
+}
