@@ -2,3 +2,10 @@ pub mod Bools
 pub mod Counting
 pub mod Lists
 pub mod Reachability
+pub mod Orbits
+pub mod Matchings
+pub mod Hall
+pub mod Paths
+pub mod Search
+pub mod Edits
+pub mod Given
