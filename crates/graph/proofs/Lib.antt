@@ -1,6 +1,7 @@
 pub mod Bools
 pub mod Counting
 pub mod Lists
+pub mod Permutations
 pub mod Reachability
 pub mod Orbits
 pub mod Matchings
