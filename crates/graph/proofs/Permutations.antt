@@ -46,9 +46,9 @@ inverse-inverse {n} {p} P = record {
 }
 
 -- an inverse is known by where it takes the numbers of p
-pub inverse-only : {n : ℕ} {p q : List ℕ} → Permutes n p → ((i : ℕ) → i < n → getD q (getD p i 0) 0 ≡ i)
+pub inverse-only : {n : ℕ} {p : List ℕ} (q : List ℕ) → Permutes n p → ((i : ℕ) → i < n → getD q (getD p i 0) 0 ≡ i)
     → (c : ℕ) → c < n → getD q c 0 ≡ getD (inverse n p) c 0
-inverse-only {n} {p} {q} P hit c l =
+inverse-only {n} {p} q P hit c l =
     let t = inverse-place P c l in
     ap (λ (x : ℕ). getD q x 0) (sym (t .1)) ∙ hit (getD (inverse n p) c 0) (t .0)
 
