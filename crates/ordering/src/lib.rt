@@ -1,0 +1,2 @@
+// Orders, matchings and block forms of a sparse matrix's pattern.
+pub mod queue;
