@@ -2,3 +2,13 @@ pub mod Bools
 pub mod Counting
 pub mod Lists
 pub mod Reachability
+pub mod Walks
+pub mod Reached
+pub mod Finishing
+pub mod Concatenation
+pub mod Components
+pub mod Cuts
+pub mod Blocks
+pub mod Targets
+pub mod SameSets
+pub mod BlockSamples
