@@ -10,3 +10,13 @@ pub mod Paths
 pub mod Search
 pub mod Edits
 pub mod Given
+pub mod Walks
+pub mod Reached
+pub mod Finishing
+pub mod Concatenation
+pub mod Components
+pub mod Cuts
+pub mod Blocks
+pub mod Targets
+pub mod SameSets
+pub mod BlockSamples

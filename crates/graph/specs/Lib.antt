@@ -8,3 +8,4 @@ pub mod Paths
 pub mod Walks
 pub mod Blocks
 pub mod Edits
+pub mod BlockSamples
