@@ -4,6 +4,7 @@ use mathlib.Core.Path.{_≡_}
 use mathlib.Core.List.{List}
 use lib.ListN.{length, getD}
 use lib.Seq.{slice}
+use Rattle.graph.specs.Lists.{Once}
 use Rattle.graph.specs.Matchings.{Col, Row, Pattern}
 use Rattle.graph.specs.Edits.{edited}
 use Rattle.sparse.specs.Limits.{maxSize, maxEntries}
@@ -32,3 +33,9 @@ pub record Shaped (size : ℕ) (starts rows : List ℕ) : Type 0 where
 -- every row is below n: what refusal 3 lets through
 abbrev pub RowsBelow : List Row → ℕ → Type 0
 RowsBelow rows n = (k : ℕ) → k < length rows → getD rows k 0 < n
+
+-- a valid pattern: what refusals 1 to 4 let through
+pub record Valid (size : ℕ) (starts : List ℕ) (rows : List Row) : Type 0 where
+  pub shaped : Shaped size starts rows
+  pub below : RowsBelow rows size
+  pub once : (c : Col) → c < size → Once (column starts rows c)

@@ -8,6 +8,7 @@ use Rattle.graph.specs.Counting.{first, some}
 use Rattle.sparse.specs.Limits.{maxSize, maxEntries}
 use Rattle.sparse.specs.declared.Checked.{Checked}
 use Rattle.sparse.specs.declared.Checked.the-variants.{Passed, Refused}
+use Rattle.sparse.specs.declared.Refusal.{Refusal}
 
 -- the refusal of a number, at a place
 abbrev pub refusal : ℕ → ℕ → Checked
@@ -26,6 +27,11 @@ unfoldable pub firstRefusal : List Checked → Checked
 firstRefusal [] = Passed
 firstRefusal (Passed ∷ rest) = firstRefusal rest
 firstRefusal (Refused r ∷ rest) = Refused r
+
+-- what follows a check: the first where it refused, the second where it passed
+abbrev pub onCheck {ℓ} : {A : Type ℓ} → Checked → (Refusal → A) → A → A
+onCheck Passed refused passed = passed
+onCheck (Refused r) refused passed = refused r
 
 -- ---- the table's rows
 
