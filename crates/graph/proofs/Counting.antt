@@ -35,7 +35,8 @@ pub count-minus : (p : ℕ → Bool) (k n : ℕ) → k < n → p k ≡ true → 
 count-minus p k zero l e = absurd (not-suc-le-zero l)
 count-minus p k (suc n) l e = go (below l) (λ h. count-minus p k n h e)
   where
-    go : (k ≡ n) ⊎ (k < n) → (k < n → count p n ≡ suc (count (without p k) n)) → bit (p n) + count p n ≡ suc (bit (without p k n) + count (without p k) n)
+    go : (k ≡ n) ⊎ (k < n) → (k < n → count p n ≡ suc (count (without p k) n))
+        → bit (p n) + count p n ≡ suc (bit (without p k n) + count (without p k) n)
     go (inl s) ih =
         let same : count (without p k) n ≡ count p n = count-ext (without p k) p n (λ i j. without-other p k i (omega arith)) in
         let one : without p k n ≡ false = rw (← s) (without-self p k) in
@@ -91,7 +92,8 @@ tri a b = go (decLt a b) (decLt b a)
     go (no h) (no k) = inr (inl (omega arith))
 
 -- injective below n, into below n, then onto
-pub onto : (f : ℕ → ℕ) (n : ℕ) → ((i : ℕ) → i < n → f i < n) → ((i j : ℕ) → i < n → j < n → f i ≡ f j → i ≡ j) → (c : ℕ) → c < n → (i : ℕ) × (i < n) × (f i ≡ c)
+pub onto : (f : ℕ → ℕ) (n : ℕ) → ((i : ℕ) → i < n → f i < n) → ((i j : ℕ) → i < n → j < n → f i ≡ f j → i ≡ j)
+    → (c : ℕ) → c < n → (i : ℕ) × (i < n) × (f i ≡ c)
 onto f n into inj c l = go (find (λ i. f i ≡ c) (λ i. ℕ-discrete (f i) c) n)
   where
     all : ℕ → Bool
@@ -100,7 +102,8 @@ onto f n into inj c l = go (find (λ i. f i ≡ c) (λ i. ℕ-discrete (f i) c) 
     go : ((i : ℕ) × (i < n) × (f i ≡ c)) ⊎ ((i : ℕ) → i < n → ¬ (f i ≡ c)) → (i : ℕ) × (i < n) × (f i ≡ c)
     go (inl s) = s
     go (inr none) =
-        let few : count all n ≤ count (without all c) n = pigeon (λ i r. (i < n) × (f i ≡ r)) (λ i j r a b. inj i j (a .0) (b .0) (a .1 ∙ sym (b .1))) n all n (without all c)
+        let few : count all n ≤ count (without all c) n =
+        pigeon (λ i r. (i < n) × (f i ≡ r)) (λ i j r a b. inj i j (a .0) (b .0) (a .1 ∙ sym (b .1))) n all n (without all c)
         (λ i k e. (f i, into i k, without-other all c (f i) (none i k), (k, refl))) in
         let less : count all n ≡ suc (count (without all c) n) = count-minus all c n l refl in
         absurd (omega arith)
@@ -119,7 +122,8 @@ collide h n into = go (find (λ j. (i : ℕ) × (i < j) × (h i ≡ h j)) dec (s
     all : ℕ → Bool
     all i = true
 
-    go : ((j : ℕ) × (j < suc n) × ((i : ℕ) × (i < j) × (h i ≡ h j))) ⊎ ((j : ℕ) → j < suc n → ¬ ((i : ℕ) × (i < j) × (h i ≡ h j))) → (i : ℕ) × (j : ℕ) × (i < j) × (h i ≡ h j)
+    go : ((j : ℕ) × (j < suc n) × ((i : ℕ) × (i < j) × (h i ≡ h j))) ⊎ ((j : ℕ) → j < suc n → ¬ ((i : ℕ) × (i < j) × (h i ≡ h j)))
+        → (i : ℕ) × (j : ℕ) × (i < j) × (h i ≡ h j)
     go (inl (j, l, s)) = (s .0, j, s .1, s .2)
     go (inr none) =
         let apart : (c d : ℕ) → c < suc n → d < suc n → h c ≡ h d → (c < d) ⊎ ((c ≡ d) ⊎ (d < c)) → c ≡ d = λ c d k l e.
@@ -183,7 +187,8 @@ unfolding some
 some-is p zero e = absurd (apart false e refl)
 some-is p (suc n) e = go (some-is p n) (p n) refl e
   where
-    go : (some p n ≡ true → (k : ℕ) × (k < n) × (p k ≡ true)) → (b : Bool) → p n ≡ b → b || some p n ≡ true → (k : ℕ) × (k < suc n) × (p k ≡ true)
+    go : (some p n ≡ true → (k : ℕ) × (k < n) × (p k ≡ true)) → (b : Bool) → p n ≡ b → b || some p n ≡ true
+        → (k : ℕ) × (k < suc n) × (p k ≡ true)
     go ih true h t = (n, omega arith, h)
     go ih false h t = let s = ih t in (s .0, omega (arith, s .1), s .2)
 

@@ -3,7 +3,8 @@ use Prim.Native.Nat.{ℕ, zero, suc, _+_, _≤_, _<_}
 use mathlib.Core.Path.{_≡_, refl, sym, ap, _∙_}
 use mathlib.Core.Logic.{_⊎_, inl, inr, _↔_, ⊎-elim}
 use mathlib.Core.Bool.{Bool, true, false, cond, not, _||_, _&&_, false≢true}
-use mathlib.Core.List.{List, [], _∷_, _++_, List·Memᴰ·head, List·Memᴰ·tail, List·Memᴰ·cases-cons, List·Memᴰ·not-nil, Memᴰ·cast, Memᴰ·append-right, List·Memᴰ·append-cases}
+use mathlib.Core.List.{List, [], _∷_, _++_, List·Memᴰ·head, List·Memᴰ·tail, List·Memᴰ·cases-cons, List·Memᴰ·not-nil}
+use mathlib.Core.List.{Memᴰ·cast, Memᴰ·append-right, List·Memᴰ·append-cases, List·Memᴰ·eq-of-singleton}
 use native.Mathlib.Nat.{not-suc-le-zero, le-of-suc-le-suc}
 use native.Mathlib.Decide.{ℕ-discrete}
 use native.Mathlib.Omega.{arith}
@@ -59,8 +60,7 @@ once-apart (y ∷ b) s o x i j =
     ⊎-elim (λ e. o .1 (Memᴰ·cast (sym e) (Memᴰ·append-right b j))) (λ k. once-apart b s (o .0) x k j) (List·Memᴰ·cases-cons i)
 
 pub mem-snoc : (xs : List ℕ) (c x : ℕ) → Mem x (xs ++ (c ∷ [])) → Mem x xs ⊎ (x ≡ c)
-mem-snoc xs c x m =
-    ⊎-elim (λ i. inl i) (λ i. ⊎-elim (λ e. inr e) (λ j. absurd (List·Memᴰ·not-nil j)) (List·Memᴰ·cases-cons i)) (List·Memᴰ·append-cases xs m)
+mem-snoc xs c x m = ⊎-elim (λ i. inl i) (λ i. inr (List·Memᴰ·eq-of-singleton i)) (List·Memᴰ·append-cases xs m)
 
 -- a new number at the end is no repeat
 pub once-snoc : (xs : List ℕ) (c : ℕ) → Once xs → ¬ Mem c xs → Once (xs ++ (c ∷ []))
@@ -88,7 +88,8 @@ left-le (suc n) s = go (elem n s) (left-le n s)
 -- a longer list leaves no more out
 pub left-mono : (n : ℕ) (s t : List ℕ) → ((x : ℕ) → Mem x s → Mem x t) → left n t ≤ left n s
 left-mono n s t h =
-    pigeon (λ c r. c ≡ r) (λ c d r a b. a ∙ sym b) n (λ i. not (elem i t)) n (λ i. not (elem i s)) (λ c l e. (c, l, go c (elem c s) refl e, refl))
+    pigeon (λ c r. c ≡ r) (λ c d r a b. a ∙ sym b) n (λ i. not (elem i t)) n (λ i. not (elem i s))
+    (λ c l e. (c, l, go c (elem c s) refl e, refl))
   where
     go : (c : ℕ) (b : Bool) → elem c s ≡ b → not (elem c t) ≡ true → not (elem c s) ≡ true
     go c false e f = rw e
@@ -142,7 +143,10 @@ getD-table f (suc n) (suc i) l = getD-table (λ k. f (suc k)) n i (le-of-suc-le-
 
 pub range-is : (n x : ℕ) → Mem x (range n) ↔ x < n
 unfolding range
-range-is n x = (into, λ l. Memᴰ·cast (sym (getD-table (λ k. k) n x l)) (getD-mem (table (λ k. k) n) x (omega (arith, length-table (λ k. k) n))))
+range-is n x = (
+  into,
+  λ l. Memᴰ·cast (sym (getD-table (λ k. k) n x l)) (getD-mem (table (λ k. k) n) x (omega (arith, length-table (λ k. k) n))),
+)
   where
     into : Mem x (table (λ k. k) n) → x < n
     into m =
@@ -168,6 +172,7 @@ keep-only p (y ∷ l) x i = go (keep-only p l x) (p y) refl i
     on : Mem x l × (p x ≡ true) → Mem x (y ∷ l) × (p x ≡ true)
     on t = (List·Memᴰ·tail (t .0), t .1)
 
-    go : (Mem x (keep p l) → Mem x l × (p x ≡ true)) → (b : Bool) → p y ≡ b → Mem x (cond b (y ∷ keep p l) (keep p l)) → Mem x (y ∷ l) × (p x ≡ true)
+    go : (Mem x (keep p l) → Mem x l × (p x ≡ true)) → (b : Bool) → p y ≡ b → Mem x (cond b (y ∷ keep p l) (keep p l))
+        → Mem x (y ∷ l) × (p x ≡ true)
     go ih true e j = ⊎-elim (λ h. (List·Memᴰ·head h, ap p h ∙ e)) (λ k. on (ih k)) (List·Memᴰ·cases-cons j)
     go ih false e j = on (ih j)
