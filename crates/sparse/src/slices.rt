@@ -1,4 +1,5 @@
-// Reading and writing lent slices. What a slice holds and what it goes by leaves and enters here as its kind; after inlining none of these costs anything.
+// Reading and writing lent slices. What a slice holds, and what it goes by, leaves and enters here as its kind.
+// After inlining none of these costs anything.
 ghost use mathlib.Core.Path.{_≡_};
 ghost use Prim.Native.Nat.{_<_, _≤_};
 ghost use lib.ListN.{length, getD, set};
