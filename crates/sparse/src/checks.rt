@@ -1,9 +1,9 @@
 // The checks of a pattern, in the table's order. Each equals its row of the table, for any slices that the checks before it let through.
 ghost use mathlib.Core.Path.{_≡_};
-ghost use Prim.Native.Nat.{_+_, _-_, _<_, _≤_};
-ghost use mathlib.Core.Bool.{_||_, not};
-ghost use lib.Dec.{ltb, eqb};
-ghost use lib.ListN.{length, getD};
+ghost use Prim.Native.Nat.{_+_, _-_, _≤_};
+ghost use mathlib.Core.Bool.{_||_};
+ghost use lib.Dec.{ltb};
+ghost use lib.ListN.{length};
 ghost use Rattle.graph.specs.Counting.{first, some};
 ghost use Rattle.sparse.specs.Limits.{maxSize, maxEntries};
 ghost use Rattle.sparse.specs.Matrix.{Shaped, RowsBelow};

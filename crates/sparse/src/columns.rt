@@ -1,7 +1,6 @@
 // The columns of a pattern, as the Rust's SparseMat hands them out, over lent slices.
 ghost use mathlib.Core.Path.{_≡_};
-ghost use Prim.Native.Nat.{_+_, _-_, _<_, _≤_};
-ghost use lib.ListN.{length, getD};
+ghost use Prim.Native.Nat.{_<_};
 ghost use Rattle.sparse.specs.Matrix.{columnOr, width, Shaped};
 use super::Column;
 use super::slices::by_column;
