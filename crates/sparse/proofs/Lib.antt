@@ -6,3 +6,4 @@ pub mod Repeats
 pub mod Matrix
 pub mod Marks
 pub mod Scans
+pub mod Passing
