@@ -1,0 +1,3 @@
+pub mod ByLength
+pub mod InRow
+pub mod OrderOutcome
