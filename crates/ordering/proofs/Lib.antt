@@ -1,3 +1,15 @@
+pub mod Without
+pub mod Chains
+pub mod Buckets
+pub mod Rings
+pub mod Counts
+pub mod Heads
+pub mod Smallest
+pub mod Queues
+pub mod Beyond
 pub mod ByLength
 pub mod InRow
+pub mod OrderLoops
+pub mod OrderInverse
+pub mod OrderChecks
 pub mod OrderOutcome
