@@ -3,6 +3,7 @@ use Prim.Native.Nat.{ℕ, _<_}
 use mathlib.Core.Path.{_≡_, sym, ap, _∙_}
 use mathlib.Core.List.{List}
 use lib.ListN.{length, getD}
+use lib.Seq.{ext-getD}
 use Rattle.graph.specs.Counting.{preimage}
 use Rattle.graph.specs.Permutations.{Permutes, Inverse, inverse}
 use Rattle.graph.proofs.Counting.{onto, preimage-ok}
@@ -67,3 +68,12 @@ inverse-turned I = record {
   there-and-back = I .back-and-there;
   back-and-there = I .there-and-back;
 }
+
+-- lists with the same first n places have the same inverse
+pub inverse-agree : {n : ℕ} {p : List ℕ} (q : List ℕ) → Permutes n p → ((i : ℕ) → i < n → getD q i 0 ≡ getD p i 0)
+    → inverse n q ≡ inverse n p
+inverse-agree {n} {p} q P same =
+    ext-getD 0 _ _ (length-inverse n q ∙ sym (length-inverse n p)) (λ c l. inverse-only (inverse n q) P hit c (rw (length-inverse n q) at l))
+  where
+    hit : (i : ℕ) → i < n → getD (inverse n q) (getD p i 0) 0 ≡ i
+    hit i l = rw (← same i l) (inverse-inverse (permutes-agree q P same) .there-and-back i l)
