@@ -1,0 +1,38 @@
+//! Times every entry of the library beside the Rust, and prints the report.
+use dechvorim::driver::bench::{Timing, BATCHES, CALLS, PATTERNS};
+use dechvorim::driver::ENTRIES;
+
+const SEED: u64 = 19_880_901;
+
+fn main() {
+    println!("# Speed beside the Rust\n");
+    println!(
+        "Each entry of the library, its checks of input and all its clearing included, and the same function of the unchanged Rust \
+         are called in turn by one program, a release build, on the same {PATTERNS} random patterns of each kind (seed {SEED}). \
+         Times are microseconds a call, the median and the least of {BATCHES} interleaved batches of {CALLS} calls; a ratio is the \
+         library's time over the Rust's, and the last column is the workspace alone, zeroed once."
+    );
+    for entry in ENTRIES {
+        println!("\n## {}\n", entry.name);
+        println!("| Input | Library, median | Rust, median | Ratio | Library, least | Rust, least | Ratio | Clearing, median (least) |");
+        println!("|---|---|---|---|---|---|---|---|");
+        (entry.bench)(SEED).iter().for_each(print_row);
+    }
+    println!("\nCompiler of the Rust and of the driver: {}.", env!("COMPILER_VERSION"));
+}
+
+fn print_row(timing: &Timing) {
+    let Timing { words, library, original, clearing } = timing;
+    let micros = |nanos: f64| nanos / 1000.0;
+    println!(
+        "| {words} | {:.2} | {:.2} | {:.2} | {:.2} | {:.2} | {:.2} | {:.2} ({:.2}) |",
+        micros(library.median),
+        micros(original.median),
+        library.median / original.median,
+        micros(library.least),
+        micros(original.least),
+        library.least / original.least,
+        micros(clearing.median),
+        micros(clearing.least),
+    );
+}

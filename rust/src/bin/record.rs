@@ -1,0 +1,27 @@
+//! Writes the stored sample of the Rust's answers, for a replay that reads only the decimal numbers.
+use dechvorim::driver::ENTRIES;
+
+const SEED: u64 = 19_580_101;
+
+const HEADER: &str = "# Made by rust/src/bin/record.rs. Each line is a case: its kind, the pattern, then the answer and its place \
+    and, where accepted, the lists that the unchanged Rust gave. A refused case has no lists: the Rust checks nothing and panics on an \
+    empty column, so these answers and places are a reading of the table of refusals. Only the numbers count.";
+
+/// What the replay has room for.
+const MAX_BYTES: usize = 120_000;
+const MAX_NUMBERS: usize = 1_000;
+
+fn main() {
+    let mut text = format!("{HEADER}\n");
+    assert!(!text.contains(|c: char| c.is_ascii_digit()), "the header holds a number");
+    for entry in ENTRIES {
+        for case in (entry.record)(SEED) {
+            let line = format!("{} {} {case}\n", entry.kind, entry.name);
+            let numbers = line.split_whitespace().filter(|word| word.parse::<u32>().is_ok()).count();
+            assert!(numbers <= MAX_NUMBERS, "a line of {numbers} numbers");
+            text += &line;
+        }
+    }
+    assert!(text.len() < MAX_BYTES, "the record has {} bytes", text.len());
+    print!("{text}");
+}

@@ -1,0 +1,30 @@
+//! What the comparison, the record and the bench share; no part of the library's face.
+//!
+//! An entry of the library is one module here, which ends in an [`Entry`], and one line in [`ENTRIES`].
+pub mod bench;
+pub mod buffer;
+pub mod compare;
+pub mod damage;
+pub mod input;
+pub mod order;
+pub mod original;
+pub mod patterns;
+pub mod random;
+pub mod samples;
+pub mod smallest;
+pub mod table;
+
+/// What the three programs do with an entry.
+pub struct Entry {
+    pub name: &'static str,
+    /// The first number of its recorded lines.
+    pub kind: u32,
+    /// Compares it with its judge, from this seed.
+    pub compare: fn(u64) -> Result<Vec<compare::Family>, compare::Difference>,
+    /// Its recorded lines, from this seed, without the kind and the name.
+    pub record: fn(u64) -> Vec<String>,
+    /// Its times beside the Rust's, from this seed.
+    pub bench: fn(u64) -> Vec<bench::Timing>,
+}
+
+pub const ENTRIES: [Entry; 1] = [order::ENTRY];

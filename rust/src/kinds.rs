@@ -1,0 +1,27 @@
+//! What all entries share: the kinds of number, a pattern, a refusal.
+
+/// A column of the matrix. It passes to the archive as its bare number.
+#[repr(transparent)]
+#[derive(Clone, Copy, Debug, PartialEq, Eq, PartialOrd, Ord, Hash)]
+pub struct Column(pub u32);
+
+/// A row of the matrix in its original numbering. It passes to the archive as its bare number.
+#[repr(transparent)]
+#[derive(Clone, Copy, Debug, PartialEq, Eq, PartialOrd, Ord, Hash)]
+pub struct OriginalRow(pub u32);
+
+/// A square pattern: where each column starts and where the last one ends, then the rows, column by column.
+/// Nothing is taken for granted about it: an entry refuses what is not a pattern.
+#[derive(Clone, Copy, Debug)]
+pub struct Pattern<'a> {
+    pub size: u32,
+    pub starts: &'a [u32],
+    pub rows: &'a [OriginalRow],
+}
+
+/// A refusal of the table: its number, and the place that the table gives with it.
+#[derive(Clone, Copy, Debug, PartialEq, Eq)]
+pub struct Refusal {
+    pub number: u32,
+    pub place: u32,
+}

@@ -1,0 +1,13 @@
+//! Dechvorim from Rust: safe functions over the archive of the proved library.
+//!
+//! An entry takes a [`Pattern`] and lent slices, checks all it is given by itself, allocates nothing, and answers with
+//! an enum: accepted, or the first [`Refusal`] of the table in the project's scope document. The entries:
+//! [`order_simple`].
+
+#[cfg(feature = "driver")]
+pub mod driver;
+mod kinds;
+mod order;
+
+pub use kinds::{Column, OriginalRow, Pattern, Refusal};
+pub use order::{order_simple, OrderAnswer, OrderLent};
