@@ -1,0 +1,37 @@
+// The C face of the library. An answer crosses it as a refusal number, 0 where it is an acceptance, and a place.
+ghost use mathlib.Core.Path.{_≡_};
+ghost use Rattle.ordering.specs.Order.{Lent, lent, outcome, numberOf, placeOf};
+use ordering::OrderAnswer;
+
+// ordering::order_simple.
+#[no_mangle]
+pub extern "C" fn dechvorim_order_simple(
+    size: u32,
+    starts: &[u32],
+    rows: &[u32],
+    score2head: &mut [u32],
+    prev: &mut [u32],
+    next: &mut [u32],
+    marks: &mut [u32],
+    new2orig: &mut [u32],
+    orig2new: &mut [u32],
+    place: &mut u32,
+) -> u32 {
+    let answer = ordering::order_simple(
+        size,
+        starts,
+        rows,
+        score2head,
+        prev,
+        next,
+        marks,
+        new2orig,
+        orig2new,
+    );
+    if let OrderAnswer::Refused(r) = answer {
+        *place = r.place;
+        return r.number;
+    }
+    *place = 0;
+    0
+}
