@@ -1,6 +1,6 @@
 // The C face of the library. An answer crosses it as a refusal number, 0 where it is an acceptance, and a place.
 ghost use mathlib.Core.Path.{_≡_};
-ghost use Rattle.ordering.specs.Order.{Lent, lent, outcome, numberOf, placeOf};
+ghost use Rattle.ordering.specs.Order.{lent, outcome, numberOf, placeOf};
 use ordering::OrderAnswer;
 
 // ordering::order_simple.
@@ -16,7 +16,18 @@ pub extern "C" fn dechvorim_order_simple(
     new2orig: &mut [u32],
     orig2new: &mut [u32],
     place: &mut u32,
-) -> u32 {
+) -> u32
+    ensures number { λ r. ⌜ r ≡ numberOf (outcome size (now (starts .entry)) (now (rows .entry))
+        (lent (now (score2head .entry)) (now (prev .entry)) (now (next .entry)) (now (marks .entry)) (now (new2orig .entry))
+        (now (orig2new .entry))) .answer) ⌝ }
+    ensures place { λ _. ⌜ now (place .exit) ≡ placeOf (outcome size (now (starts .entry)) (now (rows .entry))
+        (lent (now (score2head .entry)) (now (prev .entry)) (now (next .entry)) (now (marks .entry)) (now (new2orig .entry))
+        (now (orig2new .entry))) .answer) ⌝ }
+    ensures buffers { λ _. ⌜ lent (now (score2head .exit)) (now (prev .exit)) (now (next .exit)) (now (marks .exit)) (now (new2orig .exit))
+        (now (orig2new .exit)) ≡ outcome size (now (starts .entry)) (now (rows .entry))
+        (lent (now (score2head .entry)) (now (prev .entry)) (now (next .entry)) (now (marks .entry)) (now (new2orig .entry))
+        (now (orig2new .entry))) .after ⌝ }
+{
     let answer = ordering::order_simple(
         size,
         starts,

@@ -14,3 +14,4 @@ pub mod OrderInverse
 pub mod OrderWhole
 pub mod OrderChecks
 pub mod OrderOutcome
+pub mod OrderSamples
