@@ -6,4 +6,5 @@ pub mod Repeats
 pub mod Matrix
 pub mod Marks
 pub mod Scans
+pub mod Tallies
 pub mod Passing

@@ -1,8 +1,10 @@
 -- What the parts of the checks say to one another. No public contract cites these.
-use Prim.Native.Nat.{ℕ, zero, suc, _+_, _<_, _≤_}
+use Prim.Native.Nat.{ℕ, zero, suc, _+_, _-_, _<_, _≤_}
 use mathlib.Core.Path.{_≡_}
 use mathlib.Core.List.{List}
+use mathlib.Core.Bool.{true, false}
 use lib.ListN.{length, getD, set}
+use Rattle.sparse.specs.Refusals.{repeatsAt}
 
 -- the first k are zero
 abbrev pub ZeroBelow : ℕ → List ℕ → Type 0
@@ -23,3 +25,15 @@ pub record Scanned (rows : List ℕ) (lo hi r : ℕ) : Type 0 where
   pub to : r ≤ hi
   pub apart : (j k : ℕ) → lo ≤ j → j < k → k < r → getD rows j 0 ≡ getD rows k 0 → ⊥
   pub met : r < hi → (j : ℕ) × (lo ≤ j) × (j < r) × (getD rows j 0 ≡ getD rows r 0)
+
+-- r is at most the number of the rows lo..hi, and 0 exactly if no two of them are alike
+pub record Tallied (rows : List ℕ) (lo hi r : ℕ) : Type 0 where
+  pub few : r ≤ hi - lo
+  pub apart : r ≡ 0 → (j k : ℕ) → lo ≤ j → j < k → k < hi → getD rows j 0 ≡ getD rows k 0 → ⊥
+  pub met : 0 < r → (j : ℕ) × (k : ℕ) × (lo ≤ j) × (j < k) × (k < hi) × (getD rows j 0 ≡ getD rows k 0)
+
+-- r is at most n, and 0 exactly if no place below n repeats a row of its column
+pub record Counted (size : ℕ) (starts rows : List ℕ) (n r : ℕ) : Type 0 where
+  pub few : r ≤ n
+  pub none : r ≡ 0 → (k : ℕ) → k < n → repeatsAt size starts rows k ≡ false
+  pub met : 0 < r → (k : ℕ) × (k < n) × (repeatsAt size starts rows k ≡ true)

@@ -1,141 +1,58 @@
--- `check_repeats` meets its contract. The invariant: the marks are as they were, and no row before column c is repeated.
-use Prim.Native.Nat.{ℕ, _+_, _-_, _<_, _≤_}
-use mathlib.Core.Path.{_≡_, sym, _∙_, ap}
-use mathlib.Core.Bool.{false}
+-- `check_repeats` meets its contract: where the count finds a repeat the search has its place.
+use mathlib.Core.Path.{sym, _∙_}
 use native.Mathlib.Omega.{arith}
 use borrow.Author.Needs.{needs}
-use lib.ListN.{length, getD}
-use Rattle.sparse.specs.Refusals.{repeatedRow, repeatsAt}
-use Rattle.sparse.proofs.Refusals.{refused-at, refused-none}
-use Rattle.sparse.proofs.Matrix.{column-end}
-use Rattle.sparse.proofs.Scans.{none-scanned, one-scanned}
+use Rattle.graph.proofs.Counting.{some-at}
+use Rattle.sparse.specs.Refusals.{repeatedRow}
+use Rattle.sparse.proofs.Refusals.{refused-none, some-refused}
 use Rattle.sparse.proofs.checks.check_repeats.Statement.{statement}
 use Rattle.sparse.proofs.checks.check_repeats.Tie as tie
 
-abbrev Inv-loop : tie.InvT-loop
-Inv-loop size starts rows marks₀ c₀ marks c =
-    (c ≤ size) × (marks ≡ marks₀) × ((k : ℕ) → k < getD starts c 0 → repeatsAt size starts rows k ≡ false)
+count-repeats-requires : tie.Need-count-repeats-requires
+count-repeats-requires c κs = search needs
 
-abbrev μ-loop : tie.MeasureT-loop
-μ-loop size starts rows marks₀ c₀ marks c = size - c
-
-loop-holds : tie.Need-loop-holds Inv-loop μ-loop
-loop-holds c =
-    let at-start = c .before .before .before in
-    (omega arith, search needs, λ k l. absurd (omega (arith, at-start .pre .0 .0 .from-zero)))
-
-add-get : tie.Need-add-get Inv-loop μ-loop
-add-get c =
-    let at-start = c .before .before .before .before .before in
-    omega (arith, at-start .pre .0 .0 .small)
-
-get-requires : tie.Need-get-requires Inv-loop μ-loop
-get-requires c κs =
-    let at-start = c .before .before .before .before .before in
-    omega (arith, at-start .pre .0 .0 .starts-length)
-
-get-requires-2 : tie.Need-get-requires-2 Inv-loop μ-loop
-get-requires-2 c κs =
-    let at-start = c .before .before .before .before .before .before in
-    omega (arith, at-start .pre .0 .0 .starts-length)
-
-find-repeat-requires : tie.Need-find-repeat-requires Inv-loop μ-loop
-find-repeat-requires c κs =
-    let at-after-get2 = c .before in
-    let at-after-get = at-after-get2 .before in
-    let at-loop = at-after-get .before .before in
-    let at-start = at-loop .before .before .before .before in
-    let shaped = at-start .pre .0 .0 in
-    let below = at-start .pre .0 .1 in
-    let i = at-loop .loop .c in (
-      (
-        omega (arith, at-after-get .get .ensures, at-after-get2 .get2 .ensures, shaped .rising i (omega arith)),
-        omega (arith, at-after-get .get .ensures, column-end shaped i (omega arith)),
-        λ k l. omega (arith, below k l, at-start .pre .1 .0, ap length (at-loop .loop .inv .1)),
-      ),
-      λ k l. rw (at-loop .loop .inv .1) (at-start .pre .1 .1 _ (below k l)),
-    )
-
-refuse-requires : tie.Need-refuse-requires Inv-loop μ-loop
-refuse-requires c κs = search needs
-
-same-length : tie.Need-same-length Inv-loop μ-loop
+same-length : tie.Need-same-length
 same-length c = search needs
 
-returns : tie.Need-returns Inv-loop μ-loop
+returns : tie.Need-returns
 unfolding repeatedRow
 returns c =
-    let at-then1 = c .before in
-    let at-after-find-repeat = at-then1 .before .before .before in
-    let at-after-get2 = at-after-find-repeat .before .before in
-    let at-after-get = at-after-get2 .before in
-    let at-loop = at-after-get .before .before in
-    let at-start = at-loop .before .before .before .before in
-    let shaped = at-start .pre .0 .0 in
-    let starts = at-start .args .starts .now in
-    let rows = at-start .args .rows .now in
-    let i = at-loop .loop .c in
-    let k = at-after-find-repeat .find-repeat .result in
-    let scan = rw (at-after-get .get .ensures, at-after-get2 .get2 .ensures) at (at-after-find-repeat .find-repeat .ensures .0) in
-    let here : k < getD starts (i + 1) 0 = omega (arith, at-after-get .get .ensures, at-then1 .if1 .taken) in (
-      c .refuse .ensures ∙ sym (refused-at 4 _ _ k (omega (arith, column-end shaped i (omega arith)))
-          (none-scanned shaped i k (omega arith) scan (at-loop .loop .inv .2))
-          (one-scanned (at-start .args .size) starts rows i k (omega arith) scan here)),
-      at-after-find-repeat .find-repeat .ensures .1 ∙ at-loop .loop .inv .1,
-    )
+    let told = c .before .before .before .count-repeats .ensures in
+    (sym (refused-none 4 _ _ (told .0 .none (c .if1 .taken))), told .1)
 
-add-c : tie.Need-add-c Inv-loop μ-loop
-add-c c = search needs
+first-repeat-requires : tie.Need-first-repeat-requires
+first-repeat-requires c κs =
+    let at-after-count-repeats = c .before .before .before .before in
+    let at-start = at-after-count-repeats .before .before .before .before .before in
+    let same = at-after-count-repeats .count-repeats .ensures .1 in
+    (at-start .pre .0, (omega arith, λ i l. rw same (at-start .pre .1 .1 i l)))
 
-loop-less : tie.Need-loop-less Inv-loop μ-loop
-loop-less c = search needs
+refuse-requires : tie.Need-refuse-requires
+refuse-requires c κs = search needs
 
-loop-again : tie.Need-loop-again Inv-loop μ-loop
-loop-again c =
-    let at-after-find-repeat = c .before .before .before in
-    let at-after-get2 = at-after-find-repeat .before .before in
-    let at-after-get = at-after-get2 .before in
-    let at-loop = at-after-get .before .before in
-    let at-start = at-loop .before .before .before .before in
-    let i = at-loop .loop .c in
-    let r = at-after-find-repeat .find-repeat .result in
-    let scan = rw (at-after-get .get .ensures, at-after-get2 .get2 .ensures) at (at-after-find-repeat .find-repeat .ensures .0) in (
-      omega arith,
-      at-after-find-repeat .find-repeat .ensures .1 ∙ at-loop .loop .inv .1,
-      λ k l. none-scanned (at-start .pre .0 .0) i r (omega arith) scan (at-loop .loop .inv .2) k
-          (omega (arith, l, at-after-get .get .ensures, c .if1 .left)),
-    )
-
-same-length-2 : tie.Need-same-length-2 Inv-loop μ-loop
+same-length-2 : tie.Need-same-length-2
 same-length-2 c = search needs
 
-returns-2 : tie.Need-returns-2 Inv-loop μ-loop
+returns-2 : tie.Need-returns-2
 unfolding repeatedRow
 returns-2 c =
-    let at-loop = c .before in
-    let at-start = at-loop .before .before .before .before in
-    let e : at-loop .loop .c ≡ at-start .args .size = omega arith in
-    let starts = at-start .args .starts .now in
-    let rows = at-start .args .rows .now in
-    let end : getD starts (at-loop .loop .c) 0 ≡ length rows = rw e (at-start .pre .0 .0 .to-end) in
-    (sym (refused-none 4 _ _ (λ k l. at-loop .loop .inv .2 k (rw end l))), at-loop .loop .inv .1)
+    let at-after-first-repeat = c .before .before .before in
+    let at-after-count-repeats = at-after-first-repeat .before .before .before .before .before in
+    let told = at-after-count-repeats .count-repeats .ensures in
+    let found = at-after-first-repeat .first-repeat .ensures in
+    let k = told .0 .met (omega arith) in (
+      c .refuse .ensures ∙ rw (found .0) (sym (some-refused 4 _ _ (some-at _ _ (k .0) (k .1) (k .2)))),
+      found .1 ∙ told .1,
+    )
 
 pub check-repeats-spec : {M : Type 1} → statement M
 check-repeats-spec =
     tie.close
     (tie.spec
-    Inv-loop
-    μ-loop
-    loop-holds
-    add-get
-    get-requires
-    get-requires-2
-    find-repeat-requires
-    refuse-requires
+    count-repeats-requires
     same-length
     returns
-    add-c
-    loop-less
-    loop-again
+    first-repeat-requires
+    refuse-requires
     same-length-2
     returns-2)
