@@ -108,6 +108,15 @@ move-frees {n} {col} {m} {c} {r} M h s k e = go (ℕ-discrete s r)
         let same : partner m s ≡ partner m r = sym (move-other m c r s a) ∙ e in
         a (M .partial .once s r k (M .below) (rw same h) same)
 
+-- a row that was matched is matched, whatever column below n row r takes
+move-stays : (n : ℕ) (m : List Col) (c : Col) (r s : Row) → length m ≡ n → c < n → r < n
+    → partner m s < n → partner (set m r c) s < n
+move-stays n m c r s size l k h = go (ℕ-discrete s r)
+  where
+    go : Dec (s ≡ r) → partner (set m r c) s < n
+    go (yes z) = rw (z, getD-set-same m r c 0 (omega arith)) l
+    go (no z) = rw (move-other m c r s z) h
+
 -- ---- all moves of a path
 
 -- what the matching g, moved along a path from column c, has of the matching m before
@@ -170,6 +179,14 @@ pub augment-other : (p : List Row) (m : List Col) (c : Col) (e s : Row)
 augment-other [] m c e s h k = getD-set-other m e s c 0 k
 augment-other (r ∷ p) m c e s h k =
     augment-other p (set m r c) (partner m r) e s (λ i. h (List·Memᴰ·tail i)) k ∙ move-other m c r s (λ z. h (List·Memᴰ·head z))
+
+-- a matched row stays matched
+pub augment-stays : {n : ℕ} {col : Pattern} {m : List Col} {e : Row} {c : Col} {p : List Row} → length m ≡ n → c < n
+    → Alternating n col m e c p → (s : Row) → partner m s < n → partner (augment m c p e) s < n
+augment-stays {n} {m = m} {e = e} {c = c} {p = []} size l (last k x) s h = move-stays n m c e s size l k h
+augment-stays {n} {m = m} {c = c} {p = r ∷ p} size l (more k x j new a) s h =
+    let rest = path-agree (λ q i. sym (move-other m c r q (λ z. new (Memᴰ·cast (sym z) i)))) a in
+    augment-stays (length-set m r c ∙ size) j rest s (move-stays n m c r s size l k h)
 
 -- what the last row had before does not matter
 pub augment-last : (p : List Row) (m : List Col) (c : Col) (e : Row) (x : Col) → ¬ Mem e p → augment (set m e x) c p e ≡ augment m c p e

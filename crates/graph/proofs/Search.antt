@@ -5,10 +5,10 @@ use mathlib.Core.Logic.{_⊎_, inl, inr, ⊎-elim}
 use mathlib.Core.Bool.{true}
 use mathlib.Core.List.{List, [], _∷_, List·Memᴰ·head, List·Memᴰ·tail, Memᴰ·cast}
 use mathlib.Core.List.{List·Memᴰ·cases-cons, List·Memᴰ·eq-of-singleton, List·Memᴰ·not-nil}
-use Rattle.graph.specs.Lists.{Mem, elem}
+use Rattle.graph.specs.Lists.{Mem, Once, elem}
 use Rattle.graph.specs.Matchings.{Row, Col, Pattern, Entry, Inside, Perfect, Partial, partner}
 use Rattle.graph.specs.Hall.{HallSet}
-use Rattle.graph.specs.Paths.{Alternating, last, more}
+use Rattle.graph.specs.Paths.{Alternating, last, more, Ending, failed, found}
 use Rattle.graph.proofs.Lists.{elem-mem, mem-elem}
 use Rattle.graph.proofs.Matchings.{Matched, Unmatched}
 use Rattle.graph.proofs.Hall.{Failed, failed-hall-set, hall-set-refuses}
@@ -24,32 +24,27 @@ pub data FirstFree (n : ℕ) (m : List Col) (e : Row) : List Row → Type 0 wher
 abbrev pub NoneFree : ℕ → List Col → List Row → Type 0
 NoneFree n m rs = (r : Row) → Mem r rs → partner m r < n
 
--- how a search ends: without a path, or with one, given by its rows before the last and the last
-pub data Outcome : Type 0 where
-  failed : Outcome
-  found : List Row → Row → Outcome
-
 mutual
   -- Visit n col m s c t o: with the columns s visited before, a visit to column c leaves t visited and ends with o
-  pub data Visit (n : ℕ) (col : Pattern) (m : List Col) : List Col → Col → List Col → Outcome → Type 0 where
+  pub data Visit (n : ℕ) (col : Pattern) (m : List Col) : List Col → Col → List Col → Ending → Type 0 where
     -- its first free row ends the search
     free : {s : List Col} {c : Col} {e : Row} → FirstFree n m e (col c) → Visit n col m s c (c ∷ s) (found [] e)
     -- it has no free row: its rows are scanned
-    deep : {s t : List Col} {c : Col} {o : Outcome} → NoneFree n m (col c)
+    deep : {s t : List Col} {c : Col} {o : Ending} → NoneFree n m (col c)
         → Scan n col m (c ∷ s) (col c) t o → Visit n col m s c t o
 
   -- Scan n col m s rs t o: with the columns s visited before, the rows rs of a column in list order leave t visited and end with o
-  pub data Scan (n : ℕ) (col : Pattern) (m : List Col) : List Col → List Row → List Col → Outcome → Type 0 where
+  pub data Scan (n : ℕ) (col : Pattern) (m : List Col) : List Col → List Row → List Col → Ending → Type 0 where
     -- no row is left
     done : {s : List Col} → Scan n col m s [] s failed
     -- the column matched to the next row was visited before
-    pass : {r : Row} {s t : List Col} {rs : List Row} {o : Outcome} → Mem (partner m r) s
+    pass : {r : Row} {s t : List Col} {rs : List Row} {o : Ending} → Mem (partner m r) s
         → Scan n col m s rs t o → Scan n col m s (r ∷ rs) t o
     -- it was not, and a visit to it finds the rest of a path
     hit : {r e : Row} {s t : List Col} {rs p : List Row} → ¬ Mem (partner m r) s
         → Visit n col m s (partner m r) t (found p e) → Scan n col m s (r ∷ rs) t (found (r ∷ p) e)
     -- it was not, and a visit to it fails: the other rows are scanned
-    miss : {r : Row} {s t u : List Col} {rs : List Row} {o : Outcome} → ¬ Mem (partner m r) s
+    miss : {r : Row} {s t u : List Col} {rs : List Row} {o : Ending} → ¬ Mem (partner m r) s
         → Visit n col m s (partner m r) t failed → Scan n col m t rs u o → Scan n col m s (r ∷ rs) u o
 
 -- the first free row is in the list, and free
@@ -59,18 +54,53 @@ first-free-is (later h f) = let t = first-free-is f in (List·Memᴰ·tail (t .0
 
 mutual
   -- the column is visited now, and what was visited stays so
-  pub visit-keeps : {n : ℕ} {col : Pattern} {m s t : List Col} {c : Col} {o : Outcome}
+  pub visit-keeps : {n : ℕ} {col : Pattern} {m s t : List Col} {c : Col} {o : Ending}
       → Visit n col m s c t o → (x : Col) → Mem x (c ∷ s) → Mem x t
   visit-keeps (free h) x i = i
   visit-keeps (deep h w) x i = scan-keeps w x i
 
   -- what was visited stays so
-  pub scan-keeps : {n : ℕ} {col : Pattern} {m s t : List Col} {rs : List Row} {o : Outcome}
+  pub scan-keeps : {n : ℕ} {col : Pattern} {m s t : List Col} {rs : List Row} {o : Ending}
       → Scan n col m s rs t o → (x : Col) → Mem x s → Mem x t
   scan-keeps done x i = i
   scan-keeps (pass h w) x i = scan-keeps w x i
   scan-keeps (hit h v) x i = visit-keeps v x (List·Memᴰ·tail i)
   scan-keeps (miss h v w) x i = scan-keeps w x (visit-keeps v x (List·Memᴰ·tail i))
+
+mutual
+  -- no column is visited twice
+  pub visit-once : {n : ℕ} {col : Pattern} {m s t : List Col} {c : Col} {o : Ending}
+      → Visit n col m s c t o → Once s → ¬ Mem c s → Once t
+  visit-once (free h) u new = (u, new)
+  visit-once (deep h w) u new = scan-once w (u, new)
+
+  scan-once : {n : ℕ} {col : Pattern} {m s t : List Col} {rs : List Row} {o : Ending} → Scan n col m s rs t o → Once s → Once t
+  scan-once done u = u
+  scan-once (pass h w) u = scan-once w u
+  scan-once (hit h v) u = visit-once v u h
+  scan-once (miss h v w) u = scan-once w (visit-once v u h)
+
+-- every column of the list is below n
+abbrev pub AllBelow : ℕ → List Col → Type 0
+AllBelow n s = (x : Col) → Mem x s → x < n
+
+below-cons : {n : ℕ} {s : List Col} (c : Col) → c < n → AllBelow n s → AllBelow n (c ∷ s)
+below-cons c l b x i = ⊎-elim (λ e. rw e l) (b x) (List·Memᴰ·cases-cons i)
+
+mutual
+  -- from a column below n only columns below n are visited
+  pub visit-below : {n : ℕ} {col : Pattern} {m s t : List Col} {c : Col} {o : Ending}
+      → Visit n col m s c t o → c < n → AllBelow n s → AllBelow n t
+  visit-below (free {c = c} h) l b = below-cons c l b
+  visit-below (deep {c = c} h w) l b = scan-below w h (below-cons c l b)
+
+  scan-below : {n : ℕ} {col : Pattern} {m s t : List Col} {rs : List Row} {o : Ending}
+      → Scan n col m s rs t o → NoneFree n m rs → AllBelow n s → AllBelow n t
+  scan-below done held b = b
+  scan-below (pass h w) held b = scan-below w (λ q i. held q (List·Memᴰ·tail i)) b
+  scan-below (hit {r = r} h v) held b = visit-below v (held r (List·Memᴰ·head refl)) b
+  scan-below (miss {r = r} h v w) held b =
+      scan-below w (λ q i. held q (List·Memᴰ·tail i)) (visit-below v (held r (List·Memᴰ·head refl)) b)
 
 -- ---- a found path
 
@@ -80,14 +110,14 @@ pub record Augmenting (n : ℕ) (col : Pattern) (m : List Col) (s : List Col) (c
   pub ends-free : n ≤ partner m e
   pub unvisited : (r : Row) → Mem r p → ¬ Mem (partner m r) s
 
--- an outcome that is a path is such a path
-abbrev IfFound : ℕ → Pattern → List Col → List Col → Col → Outcome → Type 0
+-- an ending that is a path is such a path
+abbrev IfFound : ℕ → Pattern → List Col → List Col → Col → Ending → Type 0
 IfFound n col m s c failed = Unit {0}
 IfFound n col m s c (found p e) = Augmenting n col m s c p e
 
 mutual
   -- what each visit, and each scan of rows of column c, says of a path
-  visit-path : {n : ℕ} {col : Pattern} {m s t : List Col} {c : Col} {o : Outcome} → Inside n col
+  visit-path : {n : ℕ} {col : Pattern} {m s t : List Col} {c : Col} {o : Ending} → Inside n col
       → Visit n col m s c t o → IfFound n col m (c ∷ s) c o
   visit-path I (free {c = c} {e = e} h) =
       let t = first-free-is h in
@@ -98,7 +128,7 @@ mutual
       }
   visit-path I (deep {c = c} h w) = scan-path I w c (λ r i. i) h
 
-  scan-path : {n : ℕ} {col : Pattern} {m s t : List Col} {rs : List Row} {o : Outcome} → Inside n col
+  scan-path : {n : ℕ} {col : Pattern} {m s t : List Col} {rs : List Row} {o : Ending} → Inside n col
       → Scan n col m s rs t o → (c : Col) → ((r : Row) → Mem r rs → Entry col c r) → NoneFree n m rs → IfFound n col m s c o
   scan-path I done c on held = tt
   scan-path I (pass h w) c on held = scan-path I w c (λ r i. on r (List·Memᴰ·tail i)) (λ r i. held r (List·Memᴰ·tail i))
@@ -142,14 +172,14 @@ scan-all {m = m} (miss h v w) r i =
     ⊎-elim (λ e. scan-keeps w (partner m r) (visit-keeps v (partner m r) (List·Memᴰ·head (ap (partner m) e))))
     (λ j. scan-all w r j) (List·Memᴰ·cases-cons i)
 
--- where the outcome is a failure, every column of t is closed but for those of s
-abbrev IfFailed : ℕ → Pattern → List Col → List Col → List Col → Outcome → Type 0
+-- where the ending is a failure, every column of t is closed but for those of s
+abbrev IfFailed : ℕ → Pattern → List Col → List Col → List Col → Ending → Type 0
 IfFailed n col m s t failed = (x : Col) → Mem x t → Mem x s ⊎ Closed n col m t x
 IfFailed n col m s t (found p e) = Unit {0}
 
 mutual
   -- what each visit, and each scan, says of a failure
-  visit-shut : {n : ℕ} {col : Pattern} {m s t : List Col} {c : Col} {o : Outcome} → Visit n col m s c t o → IfFailed n col m s t o
+  visit-shut : {n : ℕ} {col : Pattern} {m s t : List Col} {c : Col} {o : Ending} → Visit n col m s c t o → IfFailed n col m s t o
   visit-shut (free h) = tt
   visit-shut (deep {o = found p e} h w) = tt
   visit-shut {n} {col} {m} {s} {t} {c} (deep {o = failed} h w) = λ x i. ⊎-elim (entered x) inr (scan-shut w x i)
@@ -157,7 +187,7 @@ mutual
       entered : (x : Col) → Mem x (c ∷ s) → Mem x s ⊎ Closed n col m t x
       entered x j = ⊎-elim (λ e. inr (rw e (λ r k. (h r k, scan-all w r k)))) inl (List·Memᴰ·cases-cons j)
 
-  scan-shut : {n : ℕ} {col : Pattern} {m s t : List Col} {rs : List Row} {o : Outcome} → Scan n col m s rs t o → IfFailed n col m s t o
+  scan-shut : {n : ℕ} {col : Pattern} {m s t : List Col} {rs : List Row} {o : Ending} → Scan n col m s rs t o → IfFailed n col m s t o
   scan-shut done = λ x i. inl i
   scan-shut (pass h w) = scan-shut w
   scan-shut (hit h v) = tt
@@ -179,12 +209,12 @@ by-row n m s r x l i = ⊎-elim (λ e. inr (r, l, sym e)) inl (List·Memᴰ·cas
 
 mutual
   -- every column that a search has added, but the first, has a row
-  pub visit-matched : {n : ℕ} {col : Pattern} {m s t : List Col} {c : Col} {o : Outcome} → Inside n col → Visit n col m s c t o
+  pub visit-matched : {n : ℕ} {col : Pattern} {m s t : List Col} {c : Col} {o : Ending} → Inside n col → Visit n col m s c t o
       → (x : Col) → Mem x t → Mem x (c ∷ s) ⊎ Matched n (partner m) x
   visit-matched I (free h) x i = inl i
   visit-matched I (deep {c = c} h w) x i = scan-matched I w c (λ r j. j) x i
 
-  scan-matched : {n : ℕ} {col : Pattern} {m s t : List Col} {rs : List Row} {o : Outcome} → Inside n col → Scan n col m s rs t o
+  scan-matched : {n : ℕ} {col : Pattern} {m s t : List Col} {rs : List Row} {o : Ending} → Inside n col → Scan n col m s rs t o
       → (c : Col) → ((r : Row) → Mem r rs → Entry col c r) → (x : Col) → Mem x t → Mem x s ⊎ Matched n (partner m) x
   scan-matched I done c on x i = inl i
   scan-matched I (pass h w) c on x i = scan-matched I w c (λ r j. on r (List·Memᴰ·tail j)) x i

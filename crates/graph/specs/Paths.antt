@@ -1,4 +1,4 @@
--- Alternating paths: from a column by rows and their partners to a last row, and the matching moved along one.
+-- Alternating paths, from a column by rows and their partners to a last row: the matching moved along one, and how a search ends.
 use Prim.Native.Nat.{ℕ, _<_}
 use mathlib.Core.List.{List, [], _∷_}
 use lib.ListN.{set}
@@ -15,3 +15,8 @@ pub data Alternating (n : ℕ) (col : Pattern) (m : List Col) (e : Row) : Col �
 abbrev pub augment : List Col → Col → List Row → Row → List Col
 augment m c [] e = set m e c
 augment m c (r ∷ rs) e = augment (set m r c) (partner m r) rs e
+
+-- how a search ends: without a path, or with one, given by its rows before the last and the last
+pub data Ending : Type 0 where
+  failed : Ending
+  found : List Row → Row → Ending

@@ -15,3 +15,6 @@ pub mod OrderWhole
 pub mod OrderChecks
 pub mod OrderOutcome
 pub mod OrderSamples
+pub mod Searching
+pub mod Matching
+pub mod MatchingSamples
