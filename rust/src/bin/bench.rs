@@ -10,7 +10,11 @@ fn main() {
         "Each entry of the library, its checks of input and all its clearing included, and the same function of the unchanged Rust \
          are called in turn by one program, a release build, on the same {PATTERNS} random patterns of each kind (seed {SEED}). \
          Times are microseconds a call, the median and the least of {BATCHES} interleaved batches of {CALLS} calls; a ratio is the \
-         library's time over the Rust's, and the last column is the workspace alone, zeroed once."
+         library's time over the Rust's, and the last column is the workspace alone, zeroed once.\n"
+    );
+    println!(
+        "The Rust trusts its input and allocates its slices; the library tests every start and every row before it begins, and is lent \
+         all that it writes to."
     );
     for entry in ENTRIES {
         println!("\n## {}\n", entry.name);
