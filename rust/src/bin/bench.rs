@@ -6,16 +6,13 @@ const SEED: u64 = 19_880_901;
 
 fn main() {
     println!("# Speed beside the Rust\n");
-    println!(
-        "Each entry of the library, its checks of input and all its clearing included, and the same function of the unchanged Rust \
-         are called in turn by one program, a release build, on the same {PATTERNS} random patterns of each kind (seed {SEED}). \
-         Times are microseconds a call, the median and the least of {BATCHES} interleaved batches of {CALLS} calls; a ratio is the \
-         library's time over the Rust's, and the last column is the workspace alone, zeroed once.\n"
-    );
-    println!(
-        "The Rust trusts its input and allocates its slices; the library tests every start and every row before it begins, and is lent \
-         all that it writes to."
-    );
+    println!("Each entry of the library, its checks of input and all its clearing included, and the same function of the");
+    println!("unchanged Rust are called in turn by one program, a release build, on the same {PATTERNS} random patterns of");
+    println!("each kind (seed {SEED}). Times are microseconds a call, the median and the least of {BATCHES} interleaved");
+    println!("batches of {CALLS} calls; a ratio is the library's time over the Rust's, and the last column is the");
+    println!("workspace alone, zeroed once.\n");
+    println!("The Rust trusts its input and allocates its slices; the library tests every start and every row before it");
+    println!("begins, and is lent all that it writes to.");
     for entry in ENTRIES {
         println!("\n## {}\n", entry.name);
         println!("| Input | Library, median | Rust, median | Ratio | Library, least | Rust, least | Ratio | Clearing, median (least) |");
