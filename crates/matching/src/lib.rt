@@ -1,0 +1,1 @@
+// The matching of rows to columns.
