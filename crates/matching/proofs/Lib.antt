@@ -1,3 +1,4 @@
 pub mod Searching
 pub mod Matching
 pub mod MatchingSamples
+pub mod Places

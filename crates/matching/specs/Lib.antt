@@ -1,2 +1,3 @@
 pub mod Matching
 pub mod MatchingSamples
+pub mod Parts

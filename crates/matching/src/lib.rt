@@ -1,1 +1,2 @@
 // The matching of rows to columns.
+pub mod search;
