@@ -1,8 +1,9 @@
 // One search of the matching: from a column without a row, along rows and the columns that have them, to a free row.
 ghost use mathlib.Core.Path.{_≡_};
-ghost use Prim.Native.Nat.{ℕ, _≤_, _<_};
-ghost use lib.ListN.{length};
-ghost use Rattle.sparse.specs.Limits.{maxEntries};
+ghost use mathlib.Core.Logic.{_≢_};
+ghost use Prim.Native.Nat.{ℕ, _+_, _≤_, _<_};
+ghost use lib.ListN.{length, getD};
+ghost use Rattle.sparse.specs.Limits.{maxSize, maxEntries};
 ghost use Rattle.sparse.specs.Matrix.{RowsBelow};
 ghost use Rattle.matching.specs.Parts.{colAt, FreePlace, OpenPlace, Advance};
 use sparse::Column;
@@ -49,4 +50,32 @@ fn scan_next(col: &[u32], row2col: &[u32], visited: &[u32], mark: u32, from: u32
         k += 1;
     }
     k
+}
+
+// Goes on from the step on top, whose rows from a place on are to be scanned: the first column that is not visited is put on the stack,
+// or the step is taken off. Returns the stack's depth.
+fn advance(
+    col: &[u32],
+    row2col: &[u32],
+    visited: &[u32],
+    mark: u32,
+    top: u32,
+    from: u32,
+    scol: &mut [u32],
+    sat: &mut [u32],
+) -> u32
+    requires { ⌜ (length (now col) ≤ maxEntries) × RowsBelow (now col) (length (now row2col)) ⌝ }
+    requires { ⌜ ((k : ℕ) → k < length (now col) → colAt (now row2col) (now col) k < length (now visited)) ⌝ }
+    requires { ⌜ (top < maxSize) × (top < length (now sat)) × ((k : ℕ) → k < length (now col)
+        → getD (now visited) (colAt (now row2col) (now col) k) 0 ≢ mark → top + 1 < length (now scol)) ⌝ }
+    ensures { λ r. ⌜ Advance mark (now (visited .entry)) (now (row2col .entry)) (now (col .entry)) top from
+        (now (scol .entry)) (now (sat .entry)) (now (scol .exit)) (now (sat .exit)) r ⌝ }
+{
+    let next = scan_next(col, row2col, visited, mark, from);
+    if next < col.len() as u32 {
+        put(sat, top, next);
+        put_column(scol, top + 1, col_at(col, row2col, next));
+        return top + 2;
+    }
+    top
 }
