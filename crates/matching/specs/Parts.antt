@@ -25,7 +25,7 @@ pub record OpenPlace (mark : ℕ) (stamps m : List Col) (rs : List Row) (from r 
 -- how the stack, and its depth, go on from step top, whose rows from place `from` on are to be scanned
 pub data Advance (mark : ℕ) (stamps m : List Col) (rs : List Row) (top from : ℕ) (cs ps : List ℕ) : List ℕ → List ℕ → ℕ → Type 0 where
   -- no column of these rows is open: the step is taken off
-  left : (k : ℕ) → OpenPlace mark stamps m rs from k → length rs ≤ k → Advance mark stamps m rs top from cs ps cs ps top
+  back : (k : ℕ) → OpenPlace mark stamps m rs from k → length rs ≤ k → Advance mark stamps m rs top from cs ps cs ps top
   -- the first open one is put on
   down : (k : ℕ) → OpenPlace mark stamps m rs from k → k < length rs
       → Advance mark stamps m rs top from cs ps (set cs (top + 1) (colAt m rs k)) (set ps top k) (top + 2)

@@ -1,4 +1,4 @@
-use Rattle.matching.specs.Parts.{left, down}
+use Rattle.matching.specs.Parts.{back, down}
 use native.Mathlib.Omega.{arith}
 use borrow.Author.Needs.{needs}
 use Rattle.matching.proofs.search.advance.Statement.{statement}
@@ -62,7 +62,7 @@ returns c =
 returns-2 : tie.Need-returns-2
 returns-2 c =
     let at-after-scan-next = c .before in
-    left (at-after-scan-next .scan-next .result) (at-after-scan-next .scan-next .ensures) (omega arith)
+    back (at-after-scan-next .scan-next .result) (at-after-scan-next .scan-next .ensures) (omega arith)
 
 pub advance-spec : {M : Type 1} → statement M
 advance-spec =
