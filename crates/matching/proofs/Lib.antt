@@ -8,3 +8,4 @@ pub mod Walk
 pub mod Turns
 pub mod Falls
 pub mod Whole
+pub mod Arms

@@ -94,8 +94,8 @@ pub record Scanning (g : Goal) (mark : ℕ) (v₀ h₀ cs₀ ps₀ v h cs ps r :
 -- ---- what a turn may read
 
 -- there are at most n columns visited
-few : {g : Goal} {mark : ℕ} {v₀ h₀ cs₀ ps₀ s v h cs ps r : List ℕ} → Slices g mark v₀ h₀ cs₀ ps₀ s v h cs ps r → length s ≤ g .n
-few {g} {s = s} S = omega (arith, once-left (g .n) s (S .once) (S .below))
+pub few-visited : {g : Goal} {mark : ℕ} {v₀ h₀ cs₀ ps₀ s v h cs ps r : List ℕ} → Slices g mark v₀ h₀ cs₀ ps₀ s v h cs ps r → length s ≤ g .n
+few-visited {g} {s = s} S = omega (arith, once-left (g .n) s (S .once) (S .below))
 
 -- there is room on the stack for the step on top
 pub top-room : {g : Goal} {mark k : ℕ} {v₀ h₀ cs₀ ps₀ v h cs ps r : List ℕ} {hit : Bool}
@@ -104,8 +104,8 @@ top-room {g} {k = k} {cs = cs} {ps = ps} {r = r} {hit = hit} W = go (W .stage)
   where
     go : Stage g (W .s) cs ps r hit (suc k) → k < g .n
     go (entering E) = omega (arith, E .room, once-room (g .n) (W .s) (getD cs k 0) (W .slices .once) (W .slices .below) (E .low) (E .new))
-    go (failing F) = omega (arith, F .room, few (W .slices))
-    go (finding F) = omega (arith, F .room, few (W .slices))
+    go (failing F) = omega (arith, F .room, few-visited (W .slices))
+    go (finding F) = omega (arith, F .room, few-visited (W .slices))
 
 -- its column is below n
 pub top-below : {g : Goal} {mark k : ℕ} {v₀ h₀ cs₀ ps₀ v h cs ps r : List ℕ} {hit : Bool}

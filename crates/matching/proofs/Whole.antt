@@ -4,8 +4,8 @@ use mathlib.Core.Path.{_≡_, refl, sym, ap, _∙_, subst}
 use mathlib.Core.Bool.{Bool, false}
 use mathlib.Core.List.{List, [], _∷_, List·Memᴰ·head, List·Memᴰ·tail, List·Memᴰ·not-nil}
 use native.Mathlib.Omega.{arith}
-use lib.ListN.{getD, set, length-set}
-use lib.Seq.{getD-set-same}
+use lib.ListN.{getD, set, drop, length-set}
+use lib.Seq.{getD-set-same, drop-set-lt}
 use Rattle.graph.specs.Lists.{Mem}
 use Rattle.graph.specs.Matchings.{Row, Col, Pattern, partner}
 use Rattle.graph.specs.Paths.{found}
@@ -62,6 +62,14 @@ walk-start {n} {col} {m} {c} {mark} {v} {h} {cs} {ps} R =
         rest = subst (λ x. Into g cs′ ps 0 x []) (sym top) (g .visited, g .ending, search-visits n col m c (R .below), (refl, refl, refl));
       });
     }
+
+-- the same where the stack's first column stands for c, which is all that the loop knows
+pub walk-begin : {n : ℕ} {col : Pattern} {m : List Col} {c : Col} {mark : ℕ} {v h cs ps cs′ : List ℕ}
+    → SearchReady n col m c mark v h cs ps → cs′ ≡ set cs 0 c
+    → Walk (goalOf n col m (getD cs′ 0 0)) mark v h cs′ ps v h cs′ ps m false 1
+walk-begin {n} {col} {m} {c} {mark} {v} {h} {cs} {ps} R e =
+    let top : getD (set cs 0 c) 0 0 ≡ c = getD-set-same cs 0 c 0 (omega (arith, R .below, R .cols-long)) in
+    rw e (subst (λ x. Walk (goalOf n col m x) mark v h (set cs 0 c) ps v h (set cs 0 c) ps m false 1) (sym top) (walk-start R))
 
 -- ---- the end
 
@@ -124,3 +132,19 @@ walk-end {n} {col} {m} {c} {mark} {v₀} {h₀} {cs₀} {ps₀} {v} {h} {cs} {ps
     go : Stage g (W .s) cs ps r hit 0 → SearchEnds n col m c mark v₀ h₀ v h r hit
     go (failing F) = lost F
     go (finding F) = won F
+
+-- the same as the loop knows it, and the stack beyond n is as it was
+pub walk-done : {n : ℕ} {col : Pattern} {m : List Col} {c : Col} {mark : ℕ} {v₀ h₀ cs ps cs₀ v h cs′ ps′ r : List ℕ} {hit : Bool} {d : ℕ}
+    → SearchReady n col m c mark v₀ h₀ cs ps → cs₀ ≡ set cs 0 c → d ≡ 0
+    → Walk (goalOf n col m (getD cs₀ 0 0)) mark v₀ h₀ cs₀ ps v h cs′ ps′ r hit d
+    → SearchEnds n col m c mark v₀ h₀ v h r hit × ((drop n cs′ ≡ drop n cs) × (drop n ps′ ≡ drop n ps))
+walk-done {n} {col} {m} {c} {mark} {v₀} {h₀} {cs} {ps} {cs₀} {v} {h} {cs′} {ps′} {r} {hit} {d} R e z W =
+    let top : getD (set cs 0 c) 0 0 ≡ c = getD-set-same cs 0 c 0 (omega (arith, R .below, R .cols-long)) in
+    let start : getD cs₀ 0 0 ≡ c = ap (λ x. getD x 0 0) e ∙ top in
+    let W′ : Walk (goalOf n col m c) mark v₀ h₀ cs₀ ps v h cs′ ps′ r hit 0 =
+        subst (λ x. Walk (goalOf n col m c) mark v₀ h₀ cs₀ ps v h cs′ ps′ r hit x) z
+        (subst (λ x. Walk (goalOf n col m x) mark v₀ h₀ cs₀ ps v h cs′ ps′ r hit d) start W) in
+    let low : 0 < n = omega (arith, R .below) in (
+      walk-end (R .below) W′,
+      (W .slices .cols-kept .beyond ∙ ap (drop n) e ∙ drop-set-lt n cs 0 c low, W .slices .places-kept .beyond),
+    )

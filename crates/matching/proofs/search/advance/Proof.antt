@@ -3,53 +3,37 @@ use native.Mathlib.Omega.{arith}
 use borrow.Author.Needs.{needs}
 use Rattle.matching.proofs.search.advance.Statement.{statement}
 use Rattle.matching.proofs.search.advance.Tie as tie
-use Rattle.matching.proofs.search.advance.Reads as reads
-use Rattle.matching.proofs.search.advance.Lts as lts
-use Rattle.matching.proofs.search.col_at.Reads as col-at-reads
-use Rattle.matching.proofs.search.scan_next.Reads as scan-next-reads
-use Rattle.sparse.proofs.slices.put.Reads as put-reads
-use Rattle.sparse.proofs.slices.put_column.Reads as put-column-reads
 
--- src/search.rt:74:9
 scan-next-requires : tie.Need-scan-next-requires
 scan-next-requires c κs = search needs
 
--- src/search.rt:75:15
 cast-if1 : tie.Need-cast-if1
 cast-if1 c = search needs
 
--- src/search.rt:76:9
 put-requires : tie.Need-put-requires
 put-requires c κs = search needs
 
--- src/search.rt:77:26
 add-put-column : tie.Need-add-put-column
 add-put-column c = search needs
 
--- src/search.rt:77:35
 col-at-requires : tie.Need-col-at-requires
 col-at-requires c κs = search needs
 
--- src/search.rt:77:9
 put-column-requires : tie.Need-put-column-requires
 put-column-requires c κs =
     let at-after-scan-next = c .before .before .before .before .before .before .before in
     let at-start = at-after-scan-next .before .before .before .before .before .before in
     omega (arith, at-start .pre .1 .1 .2 (at-after-scan-next .scan-next .result) (omega arith) (at-after-scan-next .scan-next .ensures .here (omega arith)))
 
--- src/search.rt:78:16
 add-result : tie.Need-add-result
 add-result c = search needs
 
--- src/search.rt:78:9
 same-length : tie.Need-same-length
 same-length c = search needs
 
--- src/search.rt:78:9
 same-length-2 : tie.Need-same-length-2
 same-length-2 c = search needs
 
--- src/search.rt:78:9
 returns : tie.Need-returns
 returns c =
     let at-after-put-column = c .before .before in
@@ -58,7 +42,6 @@ returns c =
     let at-after-scan-next = at-after-put .before .before .before in
     rw (at-after-put-column .put-column .ensures, at-after-put .put .ensures, at-after-col-at .col-at .ensures) (down (at-after-scan-next .scan-next .result) (at-after-scan-next .scan-next .ensures) (omega arith))
 
--- src/search.rt:57:1
 returns-2 : tie.Need-returns-2
 returns-2 c =
     let at-after-scan-next = c .before in

@@ -6,9 +6,6 @@ use native.Mathlib.Omega.{arith}
 use borrow.Author.Needs.{needs}
 use Rattle.matching.proofs.search.scan_free.Statement.{statement}
 use Rattle.matching.proofs.search.scan_free.Tie as tie
-use Rattle.matching.proofs.search.scan_free.Reads as reads
-use Rattle.matching.proofs.search.scan_free.Lts as lts
-use Rattle.matching.proofs.search.col_at.Reads as col-at-reads
 
 abbrev Inv-loop : tie.InvT-loop
 Inv-loop size col row2col from k₀ k = (from ≤ k) × ((j : ℕ) → from ≤ j → j < k → colAt row2col col j < size)
@@ -16,38 +13,31 @@ Inv-loop size col row2col from k₀ k = (from ≤ k) × ((j : ℕ) → from ≤ 
 abbrev μ-loop : tie.MeasureT-loop
 μ-loop size col row2col from k₀ k = length col - k
 
--- src/search.rt:29:5
 loop-holds : tie.Need-loop-holds Inv-loop μ-loop
 loop-holds c =
     let at-start = c .before .before in
     (omega arith, between-none (λ j. colAt (at-start .args .row2col .now) (at-start .args .col .now) j < at-start .args .size) _)
 
--- src/search.rt:29:15
 cast-loop : tie.Need-cast-loop Inv-loop μ-loop
 cast-loop c = search needs
 
--- src/search.rt:30:20
 col-at-requires : tie.Need-col-at-requires Inv-loop μ-loop
 col-at-requires c κs =
     let at-start = c .before .before .before .before in
     (search needs, at-start .pre .1)
 
--- src/search.rt:31:13
 returns : tie.Need-returns Inv-loop μ-loop
 returns c =
     let at-after-col-at = c .before .before in
     let at-loop = at-after-col-at .before .before in
     record { from-on = at-loop .loop .inv .0; before = at-loop .loop .inv .1; here = λ l. omega (arith, at-after-col-at .col-at .ensures) }
 
--- src/search.rt:33:9
 add-k : tie.Need-add-k Inv-loop μ-loop
 add-k c = search needs
 
--- src/search.rt:29:5
 loop-less : tie.Need-loop-less Inv-loop μ-loop
 loop-less c = search needs
 
--- src/search.rt:29:5
 loop-again : tie.Need-loop-again Inv-loop μ-loop
 loop-again c =
     let at-after-col-at = c .before .before in
@@ -59,7 +49,6 @@ loop-again c =
       (at-loop .loop .inv .1) (omega (arith, at-after-col-at .col-at .ensures)),
 )
 
--- src/search.rt:24:1
 returns-2 : tie.Need-returns-2 Inv-loop μ-loop
 returns-2 c =
     let at-loop = c .before in

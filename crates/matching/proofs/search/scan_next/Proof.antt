@@ -7,10 +7,6 @@ use native.Mathlib.Omega.{arith}
 use borrow.Author.Needs.{needs}
 use Rattle.matching.proofs.search.scan_next.Statement.{statement}
 use Rattle.matching.proofs.search.scan_next.Tie as tie
-use Rattle.matching.proofs.search.scan_next.Reads as reads
-use Rattle.matching.proofs.search.scan_next.Lts as lts
-use Rattle.matching.proofs.search.col_at.Reads as col-at-reads
-use Rattle.sparse.proofs.slices.by_column.Reads as by-column-reads
 
 abbrev Inv-loop : tie.InvT-loop
 Inv-loop col row2col visited mark from k₀ k = (from ≤ k) × ((j : ℕ) → from ≤ j → j < k → getD visited (colAt row2col col j) 0 ≡ mark)
@@ -18,30 +14,25 @@ Inv-loop col row2col visited mark from k₀ k = (from ≤ k) × ((j : ℕ) → f
 abbrev μ-loop : tie.MeasureT-loop
 μ-loop col row2col visited mark from k₀ k = length col - k
 
--- src/search.rt:45:5
 loop-holds : tie.Need-loop-holds Inv-loop μ-loop
 loop-holds c =
     let at-start = c .before .before .before in
     (omega arith, between-none (λ j. getD (at-start .args .visited .now) (colAt (at-start .args .row2col .now) (at-start .args .col .now) j) 0 ≡ at-start .args .mark) _)
 
--- src/search.rt:45:15
 cast-loop : tie.Need-cast-loop Inv-loop μ-loop
 cast-loop c = search needs
 
--- src/search.rt:46:31
 col-at-requires : tie.Need-col-at-requires Inv-loop μ-loop
 col-at-requires c κs =
     let at-start = c .before .before .before .before .before in
     (search needs, at-start .pre .0 .1)
 
--- src/search.rt:46:12
 by-column-requires : tie.Need-by-column-requires Inv-loop μ-loop
 by-column-requires c κs =
     let at-loop = c .before .before in
     let at-start = at-loop .before .before .before .before in
     omega (arith, c .col-at .ensures, at-start .pre .1 (at-loop .loop .k) (omega arith))
 
--- src/search.rt:47:13
 returns : tie.Need-returns Inv-loop μ-loop
 returns c =
     let at-after-by-column = c .before in
@@ -54,15 +45,12 @@ returns c =
     here = λ l e. c .if1 .taken (at-after-by-column .by-column .ensures ∙ ap (λ (d : ℕ). getD (at-start .args .visited .now) d 0) (at-after-col-at .col-at .ensures) ∙ e);
   }
 
--- src/search.rt:49:9
 add-k : tie.Need-add-k Inv-loop μ-loop
 add-k c = search needs
 
--- src/search.rt:45:5
 loop-less : tie.Need-loop-less Inv-loop μ-loop
 loop-less c = search needs
 
--- src/search.rt:45:5
 loop-again : tie.Need-loop-again Inv-loop μ-loop
 loop-again c =
     let at-after-by-column = c .before in
@@ -75,7 +63,6 @@ loop-again c =
       (ap (λ (d : ℕ). getD (at-start .args .visited .now) d 0) (sym (at-after-col-at .col-at .ensures)) ∙ sym (at-after-by-column .by-column .ensures) ∙ c .if1 .left),
 )
 
--- src/search.rt:39:1
 returns-2 : tie.Need-returns-2 Inv-loop μ-loop
 returns-2 c =
     let at-loop = c .before in
