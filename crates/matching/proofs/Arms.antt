@@ -38,7 +38,7 @@ pub rows-below : {g : Goal} {mark k : ℕ} {v₀ h₀ cs₀ ps₀ s v h cs ps r 
     → Slices g mark v₀ h₀ cs₀ ps₀ s v h cs ps r → Hand (g .col) cs k c rs → RowsBelow rs (length r)
 rows-below {g} {c = c} {rs = rs} S H i l =
     let x : getD rs i 0 < g .n =
-        S .setting .inside .row-below c (getD rs i 0) (subst (λ x. Mem (getD rs i 0) x) (H .rows) (getD-mem rs i l)) in
+    S .setting .inside .row-below c (getD rs i 0) (subst (λ x. Mem (getD rs i 0) x) (H .rows) (getD-mem rs i l)) in
     omega (arith, S .setting .long, S .sized)
 
 -- with the stamp on the column, the step's place is one of its rows'
@@ -102,7 +102,8 @@ pub arm-on : {g : Goal} {mark k : ℕ} {v₀ h₀ cs₀ ps₀ v h cs ps r : List
 arm-on A H B = turn-on A (rw (H .rows, H .column) at B)
 
 -- the stamps go as far as the columns
-pub stamps-reach : {g : Goal} {mark : ℕ} {v₀ h₀ cs₀ ps₀ s v h cs ps r : List ℕ} → Slices g mark v₀ h₀ cs₀ ps₀ s v h cs ps r → g .n ≤ length v
+pub stamps-reach : {g : Goal} {mark : ℕ} {v₀ h₀ cs₀ ps₀ s v h cs ps r : List ℕ} → Slices g mark v₀ h₀ cs₀ ps₀ s v h cs ps r → g .n ≤
+    length v
 stamps-reach {mark = mark} {v₀ = v₀} {s = s} S = omega (arith, ap length (S .stamps), length-stamped mark s v₀, S .setting .stamps-long)
 
 -- what the scan needs
@@ -150,9 +151,9 @@ pub fall-none : {g : Goal} {mark depth : ℕ} {v₀ h₀ cs₀ ps₀ v h cs ps r
 fall-none {g} {mark} {depth} {v = v} {cs = cs} {v′ = v′} W l H ne ev A B =
     let e : suc (depth - 1) ≡ depth = omega arith in
     let less : within (g .n) mark v′ (depth - 1) < weight (g .n) mark v cs depth =
-        subst (λ d. within (g .n) mark v′ (depth - 1) < weight (g .n) mark v cs d) e
-        (subst (λ x. within (g .n) mark x (depth - 1) < weight (g .n) mark v cs (suc (depth - 1)))
-        (sym (ev ∙ ap (λ x. set v x mark) (H .column))) (none-falls (at-top W l) (rw (H .column) at ne))) in
+    subst (λ d. within (g .n) mark v′ (depth - 1) < weight (g .n) mark v cs d) e
+    (subst (λ x. within (g .n) mark x (depth - 1) < weight (g .n) mark v cs (suc (depth - 1)))
+    (sym (ev ∙ ap (λ x. set v x mark) (H .column))) (none-falls (at-top W l) (rw (H .column) at ne))) in
     omega (arith, less, on-falls A (rw (H .rows, H .column) at B))
 
 pub fall-again : {g : Goal} {mark depth : ℕ} {v₀ h₀ cs₀ ps₀ v h cs ps r : List ℕ} {hit : Bool} {c : Col} {rs : List Row} {from : ℕ}
@@ -162,8 +163,8 @@ pub fall-again : {g : Goal} {mark depth : ℕ} {v₀ h₀ cs₀ ps₀ v h cs ps 
 fall-again {g} {mark} {depth} {v = v} {cs = cs} l H stamp A B =
     let e : suc (depth - 1) ≡ depth = omega arith in
     let less : within (g .n) mark v (depth - 1) ≤ weight (g .n) mark v cs depth =
-        subst (λ d. within (g .n) mark v (depth - 1) ≤ weight (g .n) mark v cs d) e
-        (again-falls (g .n) mark (depth - 1) v cs (rw (H .column) at stamp)) in
+    subst (λ d. within (g .n) mark v (depth - 1) ≤ weight (g .n) mark v cs d) e
+    (again-falls (g .n) mark (depth - 1) v cs (rw (H .column) at stamp)) in
     omega (arith, less, on-falls A (rw (H .rows, H .column) at B))
 
 pub fall-back : {col : Pattern} {cs : List ℕ} {c : Col} {rs : List Row} (n mark depth : ℕ) (v : List ℕ) → 0 < depth

@@ -48,11 +48,11 @@ fewer {g} {mark} {v₀} {s = s} {v = v} S c low ne =
     let n = g .n in
     let below : AllBelow n (c ∷ s) = λ x i. ⊎-elim (λ e. rw e low) (S .below x) (List·Memᴰ·cases-cons i) in
     let before : unstamped n mark v ≡ left n s =
-        subst (λ x. unstamped n mark x ≡ left n s) (sym (S .stamps))
-        (unstamped-left n mark s v₀ (S .setting .stamps-long) (S .setting .unstamped) (S .below)) in
+    subst (λ x. unstamped n mark x ≡ left n s) (sym (S .stamps))
+    (unstamped-left n mark s v₀ (S .setting .stamps-long) (S .setting .unstamped) (S .below)) in
     let after : unstamped n mark (set v c mark) ≡ left n (c ∷ s) =
-        subst (λ x. unstamped n mark (set x c mark) ≡ left n (c ∷ s)) (sym (S .stamps))
-        (unstamped-left n mark (c ∷ s) v₀ (S .setting .stamps-long) (S .setting .unstamped) below) in
+    subst (λ x. unstamped n mark (set x c mark) ≡ left n (c ∷ s)) (sym (S .stamps))
+    (unstamped-left n mark (c ∷ s) v₀ (S .setting .stamps-long) (S .setting .unstamped) below) in
     omega (arith, before, after, left-enter n c s low (elem-not c s (λ i. ne (has-stamp S c i))))
 
 -- a first visit that finds a free row
@@ -86,6 +86,6 @@ on-falls {g} {mark} {k} {v = v} {cs = cs} {r = r} A (down q P l) =
     let b = colAt r (g .col (getD cs k 0)) q in
     let N = open-new A l (P .here l) in
     let top : getD (set cs (k + 1) b) (k + 1) 0 ≡ b =
-        getD-set-same cs (k + 1) b 0 (omega (arith, A .slices .cols-kept .long, N .2)) in
+    getD-set-same cs (k + 1) b 0 (omega (arith, A .slices .cols-kept .long, N .2)) in
     let new : getD v (getD (set cs (k + 1) b) (k + 1) 0) 0 ≢ mark = subst (λ x. getD v x 0 ≢ mark) (sym top) (P .here l) in
     omega (arith, bump-out mark v (set cs (k + 1) b) (k + 2) (k + 1) (omega arith) new)

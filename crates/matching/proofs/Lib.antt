@@ -9,3 +9,4 @@ pub mod Turns
 pub mod Falls
 pub mod Whole
 pub mod Arms
+pub mod Ready

@@ -1,7 +1,7 @@
 -- Stamps for a set of columns, and slices of which only the first n numbers change.
-use Prim.Native.Nat.{ℕ, _≤_, _<_}
+use Prim.Native.Nat.{ℕ, zero, suc, _≤_, _<_}
 use mathlib.Core.Path.{_≡_, refl, sym, _∙_}
-use mathlib.Core.Logic.{_↔_, ⊎-elim}
+use mathlib.Core.Logic.{_≢_, _↔_, ⊎-elim}
 use mathlib.Core.Bool.{Bool, true, false, not}
 use mathlib.Core.List.{List, [], _∷_, List·Memᴰ·head, List·Memᴰ·tail, List·Memᴰ·cases-cons, List·Memᴰ·not-nil}
 use native.Mathlib.Decide.{ℕ-discrete}
@@ -17,6 +17,14 @@ use Rattle.graph.proofs.Counting.{count-ext}
 use Rattle.graph.proofs.Lists.{left, not-elem, elem-mem}
 use Rattle.graph.proofs.Search.{AllBelow}
 use Rattle.matching.specs.Search.{Unstamped, stamped}
+
+-- what holds of each number of a list, and of one stored in it, holds of each number then
+pub set-keeps : (P : ℕ → Type 0) (l : List ℕ) (i a x : ℕ) → P a → P (getD l x 0) → P (getD (set l i a) x 0)
+set-keeps P [] i a x k h = h
+set-keeps P (y ∷ ys) zero a zero k h = k
+set-keeps P (y ∷ ys) zero a (suc x) k h = h
+set-keeps P (y ∷ ys) (suc i) a zero k h = h
+set-keeps P (y ∷ ys) (suc i) a (suc x) k h = set-keeps P ys i a x k h
 
 -- ---- stamps
 
@@ -49,6 +57,13 @@ stamped-is n mark s v c l new b k = (λ e. back e (elem c s) refl, stamped-in n 
     back : getD (stamped mark s v) c 0 ≡ mark → (t : Bool) → elem c s ≡ t → Mem c s
     back e true h = elem-mem c s h
     back e false h = absurd (new c k (sym (stamped-out mark s v c (not-elem c s h)) ∙ e))
+
+-- stamps other than the next mark stay so, where that is another mark
+pub unstamped-next : (n mark next : ℕ) (s : List Col) (v : List ℕ) → mark ≢ next → Unstamped n next v → Unstamped n next (stamped mark s
+    v)
+unstamped-next n mark next [] v ne new c l = new c l
+unstamped-next n mark next (d ∷ s) v ne new c l =
+    set-keeps (λ x. x ≢ next) (stamped mark s v) d mark c ne (unstamped-next n mark next s v ne new c l)
 
 -- how many columns below n have another stamp
 abbrev pub unstamped : ℕ → ℕ → List ℕ → ℕ

@@ -57,7 +57,7 @@ pub turn-free : {g : Goal} {mark k : ℕ} {v₀ h₀ cs₀ ps₀ v h cs ps r : L
     → (W : Walk g mark v₀ h₀ cs₀ ps₀ v h cs ps r hit (suc k)) → getD v (getD cs k 0) 0 ≢ mark
     → FreePlace (g .n) r (g .col (getD cs k 0)) (getD h (getD cs k 0) 0) q → q < length (g .col (getD cs k 0))
     → Walk g mark v₀ h₀ cs₀ ps₀ (set v (getD cs k 0) mark) (set h (getD cs k 0) q) cs ps
-      (set r (getD (g .col (getD cs k 0)) q 0) (getD cs k 0)) true k
+    (set r (getD (g .col (getD cs k 0)) q 0) (getD cs k 0)) true k
 turn-free {g} {k = k} {h = h} {cs = cs} {ps = ps} {r = r} {q = q} W ne F l =
     let c = getD cs k 0 in
     let e = getD (g .col c) q 0 in
@@ -199,7 +199,7 @@ open-new {g} {k = k} {cs = cs} {r = r} {q = q} A l ne =
     let c = getD cs k 0 in
     let b = colAt r (g .col c) q in
     let low : b < g .n =
-        subst (λ x. colAt x (g .col c) q < g .n) (sym (A .same)) (A .held (getD (g .col c) q 0) (getD-mem (g .col c) q l)) in
+    subst (λ x. colAt x (g .col c) q < g .n) (sym (A .same)) (A .held (getD (g .col c) q 0) (getD-mem (g .col c) q l)) in
     let new : ¬ Mem b (A .s) = λ i. ne (has-stamp (A .slices) b i) in
     (low, new, omega (arith, A .room, once-room (g .n) (A .s) b (A .slices .once) (A .slices .below) low new))
 
@@ -217,13 +217,13 @@ turn-down {g} {mark} {k} {cs₀ = cs₀} {ps₀ = ps₀} {cs = cs} {ps = ps} {r 
     let S = A .slices in
     let T = top-past g cs ps k c from q (A .s) (P .from-on) (omega arith) (λ i a z. passed A P i a z (omega arith)) (A .rest) in
     let R = ret-agree g cs ps cs′ ps′ k c (T .0) (T .1) (λ i a. sym (getD-set-other cs (suc k) i b 0 (omega arith)))
-        (λ i a. sym (getD-set-other ps k i q 0 (omega arith))) (T .3) in
+    (λ i a. sym (getD-set-other ps k i q 0 (omega arith))) (T .3) in
     let top : getD cs′ (suc k) 0 ≡ b = getD-set-same cs (suc k) b 0 (omega (arith, S .cols-kept .long, N .2)) in
     let same : b ≡ colAt (g .m) (g .col c) q = ap (λ x. colAt x (g .col c) q) (A .same) in
     let into : Into g cs′ ps′ (suc k) (colAt (g .m) (g .col c) q) (A .s) =
-        step-into g cs′ ps′ k c q (A .s) (getD-set-other cs (suc k) k b 0 (omega arith))
-        (getD-set-same ps k q 0 (omega (arith, S .places-kept .long, N .2))) (record { within = l; held = A .held })
-        (subst (λ x. ¬ Mem x (A .s)) same (N .1)) (T .0, T .1, T .2, R) in
+    step-into g cs′ ps′ k c q (A .s) (getD-set-other cs (suc k) k b 0 (omega arith))
+    (getD-set-same ps k q 0 (omega (arith, S .places-kept .long, N .2))) (record { within = l; held = A .held })
+    (subst (λ x. ¬ Mem x (A .s)) same (N .1)) (T .0, T .1, T .2, R) in
     record {
       s = A .s;
       slices = record {

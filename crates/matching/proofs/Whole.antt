@@ -1,20 +1,20 @@
 -- A search from its first turn to its end: the slices hold what the rule says.
-use Prim.Native.Nat.{ℕ, zero, suc, _<_}
+use Prim.Native.Nat.{ℕ, _<_}
 use mathlib.Core.Path.{_≡_, refl, sym, ap, _∙_, subst}
 use mathlib.Core.Bool.{Bool, false}
 use mathlib.Core.List.{List, [], _∷_, List·Memᴰ·head, List·Memᴰ·tail, List·Memᴰ·not-nil}
 use native.Mathlib.Omega.{arith}
-use lib.ListN.{getD, set, drop, length-set}
+use lib.ListN.{length, getD, set, drop, length-set}
 use lib.Seq.{getD-set-same, drop-set-lt}
 use Rattle.graph.specs.Lists.{Mem}
 use Rattle.graph.specs.Matchings.{Row, Col, Pattern, partner}
-use Rattle.graph.specs.Paths.{found}
-use Rattle.graph.proofs.Paths.{unwind, unwind-is, path-once, path-rows, path-free}
+use Rattle.graph.specs.Paths.{Ending, failed, found}
+use Rattle.graph.proofs.Paths.{length-augment, unwind, unwind-is, path-once, path-rows, path-free}
 use Rattle.graph.proofs.Search.{Visit, visit-found}
 use Rattle.matching.specs.Matching.{search}
 use Rattle.matching.specs.Search.{Cheap, isFound, moved, stamped, SearchReady, SearchEnds}
 use Rattle.matching.proofs.Searching.{search-visits}
-use Rattle.matching.proofs.Stamps.{kept-start}
+use Rattle.matching.proofs.Stamps.{set-keeps, kept-start}
 use Rattle.matching.proofs.Stack.{Goal, Into}
 use Rattle.matching.proofs.Walk.{Stage, entering, failing, finding, Failing, Finding, Walk, Slices}
 
@@ -59,7 +59,16 @@ walk-start {n} {col} {m} {c} {mark} {v} {h} {cs} {ps} R =
         low = subst (λ x. x < n) (sym top) (R .below);
         room = omega arith;
         on = λ i a. absurd (omega arith);
-        rest = subst (λ x. Into g cs′ ps 0 x []) (sym top) (g .visited, g .ending, search-visits n col m c (R .below), (refl, refl, refl));
+        rest = subst (λ x. Into g cs′ ps 0 x []) (sym top) (
+          g .visited,
+          g .ending,
+          search-visits n col m c (R .below),
+          (
+            refl,
+            refl,
+            refl,
+          ),
+        );
       });
     }
 
@@ -73,20 +82,12 @@ walk-begin {n} {col} {m} {c} {mark} {v} {h} {cs} {ps} R e =
 
 -- ---- the end
 
--- a list whose numbers are below n where c is stored has them below n
-set-low : (n : ℕ) (l : List ℕ) (i c x : ℕ) → c < n → getD l x 0 < n → getD (set l i c) x 0 < n
-set-low n [] i c x k h = h
-set-low n (y ∷ ys) zero c zero k h = k
-set-low n (y ∷ ys) zero c (suc x) k h = h
-set-low n (y ∷ ys) (suc i) c zero k h = h
-set-low n (y ∷ ys) (suc i) c (suc x) k h = set-low n ys i c x k h
-
 -- a matched row stays matched when the matching is moved along a path
 unwind-stays : (n : ℕ) (m : List Col) (p : List Row) (c : Col) (e : Row) → c < n → ((r : Row) → Mem r p → partner m r < n)
     → (x : Row) → partner m x < n → partner (unwind m c p e) x < n
-unwind-stays n m [] c e l low x h = set-low n m e c x l h
+unwind-stays n m [] c e l low x h = set-keeps (λ y. y < n) m e c x l h
 unwind-stays n m (r ∷ p) c e l low x h =
-    set-low n (unwind m (partner m r) p e) r c x l
+    set-keeps (λ y. y < n) (unwind m (partner m r) p e) r c x l
     (unwind-stays n m p (partner m r) e (low r (List·Memᴰ·head refl)) (λ q i. low q (List·Memᴰ·tail i)) x h)
 
 -- with the stack empty, the slices hold the rule's answer
@@ -115,7 +116,7 @@ walk-end {n} {col} {m} {c} {mark} {v₀} {h₀} {cs₀} {ps₀} {v} {h} {cs} {ps
     won F =
         let R = F .rest in
         let visit : Visit n col m [] c (search n col m n [] c .visited) (found (F .path) (F .last)) =
-            subst (λ x. Visit n col m [] c (search n col m n [] c .visited) x) (sym (R .2)) (search-visits n col m c l) in
+        subst (λ x. Visit n col m [] c (search n col m n [] c .visited) x) (sym (R .2)) (search-visits n col m c l) in
         let P = visit-found (S .setting .inside) visit in
         let A = P .alternating in
         let same : r ≡ unwind m c (F .path) (F .last) = F .same ∙ ap (λ x. unwind m x (F .path) (F .last)) (R .0) in
@@ -142,9 +143,14 @@ walk-done {n} {col} {m} {c} {mark} {v₀} {h₀} {cs} {ps} {cs₀} {v} {h} {cs�
     let top : getD (set cs 0 c) 0 0 ≡ c = getD-set-same cs 0 c 0 (omega (arith, R .below, R .cols-long)) in
     let start : getD cs₀ 0 0 ≡ c = ap (λ x. getD x 0 0) e ∙ top in
     let W′ : Walk (goalOf n col m c) mark v₀ h₀ cs₀ ps v h cs′ ps′ r hit 0 =
-        subst (λ x. Walk (goalOf n col m c) mark v₀ h₀ cs₀ ps v h cs′ ps′ r hit x) z
-        (subst (λ x. Walk (goalOf n col m x) mark v₀ h₀ cs₀ ps v h cs′ ps′ r hit d) start W) in
+    subst (λ x. Walk (goalOf n col m c) mark v₀ h₀ cs₀ ps v h cs′ ps′ r hit x) z
+    (subst (λ x. Walk (goalOf n col m x) mark v₀ h₀ cs₀ ps v h cs′ ps′ r hit d) start W) in
     let low : 0 < n = omega (arith, R .below) in (
       walk-end (R .below) W′,
       (W .slices .cols-kept .beyond ∙ ap (drop n) e ∙ drop-set-lt n cs 0 c low, W .slices .places-kept .beyond),
     )
+
+-- the matching keeps its length
+pub length-moved : (m : List Col) (c : Col) (o : Ending) → length (moved m c o) ≡ length m
+length-moved m c failed = refl
+length-moved m c (found p e) = length-augment p m c e

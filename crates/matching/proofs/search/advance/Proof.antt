@@ -1,3 +1,4 @@
+-- `advance` meets its contract.
 use Rattle.matching.specs.Parts.{back, down}
 use native.Mathlib.Omega.{arith}
 use borrow.Author.Needs.{needs}
@@ -23,7 +24,11 @@ put-column-requires : tie.Need-put-column-requires
 put-column-requires c κs =
     let at-after-scan-next = c .before .before .before .before .before .before .before in
     let at-start = at-after-scan-next .before .before .before .before .before .before in
-    omega (arith, at-start .pre .1 .1 .2 (at-after-scan-next .scan-next .result) (omega arith) (at-after-scan-next .scan-next .ensures .here (omega arith)))
+    omega (
+      arith,
+      at-start .pre .1 .1 .2 (at-after-scan-next .scan-next .result) (omega arith)
+          (at-after-scan-next .scan-next .ensures .here (omega arith)),
+    )
 
 add-result : tie.Need-add-result
 add-result c = search needs
@@ -40,7 +45,8 @@ returns c =
     let at-after-col-at = at-after-put-column .before in
     let at-after-put = at-after-col-at .before .before .before .before in
     let at-after-scan-next = at-after-put .before .before .before in
-    rw (at-after-put-column .put-column .ensures, at-after-put .put .ensures, at-after-col-at .col-at .ensures) (down (at-after-scan-next .scan-next .result) (at-after-scan-next .scan-next .ensures) (omega arith))
+    rw (at-after-put-column .put-column .ensures, at-after-put .put .ensures, at-after-col-at .col-at .ensures) (down
+    (at-after-scan-next .scan-next .result) (at-after-scan-next .scan-next .ensures) (omega arith))
 
 returns-2 : tie.Need-returns-2
 returns-2 c =

@@ -1,3 +1,4 @@
+-- `col_at` meets its contract.
 use Prim.Native.Nat.{ℕ}
 use lib.ListN.{getD}
 use mathlib.Core.Path.{_∙_, ap}

@@ -1,3 +1,4 @@
+-- `scan_free` meets its contract. The invariant: the rows passed are matched.
 use Rattle.matching.proofs.Places.{between-none, between-more}
 use Rattle.matching.specs.Parts.{colAt}
 use lib.ListN.{length}
@@ -30,7 +31,11 @@ returns : tie.Need-returns Inv-loop μ-loop
 returns c =
     let at-after-col-at = c .before .before in
     let at-loop = at-after-col-at .before .before in
-    record { from-on = at-loop .loop .inv .0; before = at-loop .loop .inv .1; here = λ l. omega (arith, at-after-col-at .col-at .ensures) }
+    record {
+      from-on = at-loop .loop .inv .0;
+      before = at-loop .loop .inv .1;
+      here = λ l. omega (arith, at-after-col-at .col-at .ensures);
+    }
 
 add-k : tie.Need-add-k Inv-loop μ-loop
 add-k c = search needs
@@ -42,12 +47,11 @@ loop-again : tie.Need-loop-again Inv-loop μ-loop
 loop-again c =
     let at-after-col-at = c .before .before in
     let at-loop = at-after-col-at .before .before in
-    let at-start = at-loop .before .before .before in
-    (
-  omega arith,
-  between-more (λ j. colAt (at-start .args .row2col .now) (at-start .args .col .now) j < at-start .args .size) _ _
-      (at-loop .loop .inv .1) (omega (arith, at-after-col-at .col-at .ensures)),
-)
+    let at-start = at-loop .before .before .before in (
+      omega arith,
+      between-more (λ j. colAt (at-start .args .row2col .now) (at-start .args .col .now) j < at-start .args .size) _ _
+          (at-loop .loop .inv .1) (omega (arith, at-after-col-at .col-at .ensures)),
+    )
 
 returns-2 : tie.Need-returns-2 Inv-loop μ-loop
 returns-2 c =

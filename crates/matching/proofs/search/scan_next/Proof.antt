@@ -1,3 +1,4 @@
+-- `scan_next` meets its contract. The invariant: the columns of the rows passed are visited.
 use Rattle.matching.proofs.Places.{between-none, between-more}
 use Rattle.matching.specs.Parts.{colAt}
 use lib.ListN.{length, getD}
@@ -16,8 +17,11 @@ abbrev μ-loop : tie.MeasureT-loop
 
 loop-holds : tie.Need-loop-holds Inv-loop μ-loop
 loop-holds c =
-    let at-start = c .before .before .before in
-    (omega arith, between-none (λ j. getD (at-start .args .visited .now) (colAt (at-start .args .row2col .now) (at-start .args .col .now) j) 0 ≡ at-start .args .mark) _)
+    let at-start = c .before .before .before in (
+      omega arith,
+      between-none (λ j. getD (at-start .args .visited .now) (colAt (at-start .args .row2col .now) (at-start .args .col .now)
+          j) 0 ≡ at-start .args .mark) _,
+    )
 
 cast-loop : tie.Need-cast-loop Inv-loop μ-loop
 cast-loop c = search needs
@@ -40,10 +44,11 @@ returns c =
     let at-loop = at-after-col-at .before .before in
     let at-start = at-loop .before .before .before .before in
     record {
-    from-on = at-loop .loop .inv .0;
-    before = at-loop .loop .inv .1;
-    here = λ l e. c .if1 .taken (at-after-by-column .by-column .ensures ∙ ap (λ (d : ℕ). getD (at-start .args .visited .now) d 0) (at-after-col-at .col-at .ensures) ∙ e);
-  }
+      from-on = at-loop .loop .inv .0;
+      before = at-loop .loop .inv .1;
+      here = λ l e. c .if1 .taken (at-after-by-column .by-column .ensures ∙ ap (λ (d : ℕ). getD (at-start .args .visited .now) d 0)
+          (at-after-col-at .col-at .ensures) ∙ e);
+    }
 
 add-k : tie.Need-add-k Inv-loop μ-loop
 add-k c = search needs
@@ -56,12 +61,13 @@ loop-again c =
     let at-after-by-column = c .before in
     let at-after-col-at = at-after-by-column .before in
     let at-loop = at-after-col-at .before .before in
-    let at-start = at-loop .before .before .before .before in
-    (
-  omega arith,
-  between-more (λ j. getD (at-start .args .visited .now) (colAt (at-start .args .row2col .now) (at-start .args .col .now) j) 0 ≡ at-start .args .mark) _ _ (at-loop .loop .inv .1)
-      (ap (λ (d : ℕ). getD (at-start .args .visited .now) d 0) (sym (at-after-col-at .col-at .ensures)) ∙ sym (at-after-by-column .by-column .ensures) ∙ c .if1 .left),
-)
+    let at-start = at-loop .before .before .before .before in (
+      omega arith,
+      between-more (λ j. getD (at-start .args .visited .now) (colAt (at-start .args .row2col .now) (at-start .args .col .now) j) 0 ≡
+          at-start .args .mark) _ _ (at-loop .loop .inv .1)
+          (ap (λ (d : ℕ). getD (at-start .args .visited .now) d 0) (sym (at-after-col-at .col-at .ensures)) ∙ sym
+          (at-after-by-column .by-column .ensures) ∙ c .if1 .left),
+    )
 
 returns-2 : tie.Need-returns-2 Inv-loop μ-loop
 returns-2 c =
