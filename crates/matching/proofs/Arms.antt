@@ -106,12 +106,13 @@ pub stamps-reach : {g : Goal} {mark : ℕ} {v₀ h₀ cs₀ ps₀ s v h cs ps r 
     length v
 stamps-reach {mark = mark} {v₀ = v₀} {s = s} S = omega (arith, ap length (S .stamps), length-stamped mark s v₀, S .setting .stamps-long)
 
--- what the scan needs
+-- what going on from the step on top needs
 pub record ScanReady (v cs ps r : List ℕ) (mark k : ℕ) (rs : List Row) : Type 0 where
   pub short : (length rs ≤ maxEntries) × RowsBelow rs (length r)
   pub cols : (i : ℕ) → i < length rs → colAt r rs i < length v
   pub room : (k < maxSize) × (k < length ps) × ((i : ℕ) → i < length rs → getD v (colAt r rs i) 0 ≢ mark → k + 1 < length cs)
 
+-- where the rows are to be scanned, that is given
 pub scan-ready : {g : Goal} {mark k : ℕ} {v₀ h₀ cs₀ ps₀ v h cs ps r : List ℕ} {hit : Bool} {c : Col} {rs : List Row} {from : ℕ}
     → Scanning g mark v₀ h₀ cs₀ ps₀ v h cs ps r hit k from → Hand (g .col) cs k c rs → g .n ≤ maxSize → length rs ≤ maxEntries
     → ScanReady v cs ps r mark k rs
@@ -135,6 +136,7 @@ scan-ready {g} {mark} {k} {v₀} {v = v} {cs = cs} {ps = ps} {r = r} {c = c} {rs
 
 -- ---- what is left falls
 
+-- with a free row found
 pub fall-free : {g : Goal} {mark depth : ℕ} {v₀ h₀ cs₀ ps₀ v h cs ps r : List ℕ} {hit : Bool} {c : Col} {rs : List Row} {v′ : List ℕ}
     → Walk g mark v₀ h₀ cs₀ ps₀ v h cs ps r hit depth → 0 < depth → Hand (g .col) cs (depth - 1) c rs → getD v c 0 ≢ mark
     → v′ ≡ set v c mark → weight (g .n) mark v′ cs (depth - 1) < weight (g .n) mark v cs depth
@@ -144,6 +146,7 @@ fall-free {g} {mark} {depth} {v = v} {cs = cs} {v′ = v′} W l H ne ev =
     (subst (λ x. weight (g .n) mark x cs (depth - 1) < weight (g .n) mark v cs (suc (depth - 1)))
     (sym (ev ∙ ap (λ x. set v x mark) (H .column))) (free-falls (at-top W l) (rw (H .column) at ne)))
 
+-- with none found
 pub fall-none : {g : Goal} {mark depth : ℕ} {v₀ h₀ cs₀ ps₀ v h cs ps r : List ℕ} {hit : Bool} {c : Col} {rs : List Row} {from : ℕ}
     {v′ h′ cs′ ps′ : List ℕ} {d : ℕ} → Walk g mark v₀ h₀ cs₀ ps₀ v h cs ps r hit depth → 0 < depth → Hand (g .col) cs (depth - 1) c rs
     → getD v c 0 ≢ mark → v′ ≡ set v c mark → Scanning g mark v₀ h₀ cs₀ ps₀ v′ h′ cs ps r hit (depth - 1) from
@@ -156,6 +159,7 @@ fall-none {g} {mark} {depth} {v = v} {cs = cs} {v′ = v′} W l H ne ev A B =
     (sym (ev ∙ ap (λ x. set v x mark) (H .column))) (none-falls (at-top W l) (rw (H .column) at ne))) in
     omega (arith, less, on-falls A (rw (H .rows, H .column) at B))
 
+-- with a visit that failed
 pub fall-again : {g : Goal} {mark depth : ℕ} {v₀ h₀ cs₀ ps₀ v h cs ps r : List ℕ} {hit : Bool} {c : Col} {rs : List Row} {from : ℕ}
     {cs′ ps′ : List ℕ} {d : ℕ} → 0 < depth → Hand (g .col) cs (depth - 1) c rs
     → getD v c 0 ≡ mark → Scanning g mark v₀ h₀ cs₀ ps₀ v h cs ps r hit (depth - 1) from
@@ -167,6 +171,7 @@ fall-again {g} {mark} {depth} {v = v} {cs = cs} l H stamp A B =
     (again-falls (g .n) mark (depth - 1) v cs (rw (H .column) at stamp)) in
     omega (arith, less, on-falls A (rw (H .rows, H .column) at B))
 
+-- with a visit that found a path
 pub fall-back : {col : Pattern} {cs : List ℕ} {c : Col} {rs : List Row} (n mark depth : ℕ) (v : List ℕ) → 0 < depth
     → Hand col cs (depth - 1) c rs → getD v c 0 ≡ mark → weight n mark v cs (depth - 1) < weight n mark v cs depth
 fall-back {cs = cs} n mark depth v l H stamp =

@@ -30,13 +30,15 @@ weight n mark v cs depth = 3 * unstamped n mark v + depth + bump mark v cs depth
 abbrev pub within : ℕ → ℕ → List ℕ → ℕ → ℕ
 within n mark v k = 3 * unstamped n mark v + suc k + 2
 
--- the column on top of depth is step k's
+-- 2 where step k is on top and its column has the stamp
 bump-in : (mark : ℕ) (v cs : List ℕ) (depth k : ℕ) → depth - 1 ≡ k → getD v (getD cs k 0) 0 ≡ mark → bump mark v cs depth ≡ 2
 bump-in mark v cs depth k z e = rw (z, eq-eqb (getD v (getD cs k 0) 0) mark e)
 
+-- 0 where it has not
 bump-out : (mark : ℕ) (v cs : List ℕ) (depth k : ℕ) → depth - 1 ≡ k → getD v (getD cs k 0) 0 ≢ mark → bump mark v cs depth ≡ 0
 bump-out mark v cs depth k z e = rw (z, ne-eqb (getD v (getD cs k 0) 0) mark e)
 
+-- it is never more than 2
 small : (b : Bool) → cond b 2 0 ≤ 2
 small true = omega arith
 small false = omega arith

@@ -87,9 +87,11 @@ pub record Kept (n : ℕ) (a₀ a : List ℕ) : Type 0 where
   pub same-length : length a ≡ length a₀
   pub beyond : drop n a ≡ drop n a₀
 
+-- a slice that is long enough is kept as it is
 pub kept-start : (n : ℕ) (a : List ℕ) → n ≤ length a → Kept n a a
 kept-start n a l = record { long = l; same-length = refl; beyond = refl }
 
+-- a store below n keeps it
 pub kept-set : {n : ℕ} {a₀ a : List ℕ} (i x : ℕ) → i < n → Kept n a₀ a → Kept n a₀ (set a i x)
 kept-set {n} {a₀} {a} i x l K = record {
   long = rw (length-set a i x) (K .long);

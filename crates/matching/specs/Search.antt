@@ -7,7 +7,7 @@ use mathlib.Core.List.{List, [], _∷_}
 use lib.ListN.{length, getD, set, drop}
 use Rattle.graph.specs.Matchings.{Col, Pattern, Inside, partner}
 use Rattle.graph.specs.Paths.{Ending, failed, found, augment}
-use Rattle.sparse.specs.Limits.{maxSize, maxEntries}
+use Rattle.sparse.specs.Limits.{maxEntries}
 use Rattle.matching.specs.Matching.{search}
 
 -- no column below n has the stamp mark
@@ -37,7 +37,6 @@ moved m c (found p e) = augment m c p e
 pub record SearchReady (n : ℕ) (col : Pattern) (m : List Col) (c : Col) (mark : ℕ) (stamps cheap cs ps : List ℕ) : Type 0 where
   pub inside : Inside n col
   pub short : (d : Col) → length (col d) ≤ maxEntries
-  pub small : n ≤ maxSize
   pub below : c < n
   pub unstamped : Unstamped n mark stamps
   pub sound : Cheap n col m cheap

@@ -211,7 +211,7 @@ advance-requires c κs =
     let R = scan-ready (arm-none (at-dfs-loop .dfs-loop .inv) (at-in-dfs-loop .dfs-loop-test .taken) (hand at-after-col-rows) (fresh
     at-then1) (at-after-scan-free .scan-free .ensures) (at-after-by-column2 .by-column2 .ensures) (at-else2 .if2 .left)
     (at-after-put-by-column .put-by-column .ensures) (at-after-put-by-column2 .put-by-column2 .ensures)) (hand at-after-col-rows)
-    (at-start .pre .1 .small) (few at-after-col-rows) in (R .short, (R .cols, R .room))
+    (at-start .pre .0 .small) (few at-after-col-rows) in (R .short, (R .cols, R .room))
 
 dfs-loop-less-2 : tie.Need-dfs-loop-less-2 Inv-dfs-loop μ-dfs-loop
 dfs-loop-less-2 c =
@@ -319,7 +319,7 @@ advance-requires-2 c κs =
     let at-start = at-dfs-loop .before .before .before .before .before .before .before .before .before .before .before .before .before in
     let R = scan-ready (arm-again {from = at-after-get2 .get2 .result + 1} (at-dfs-loop .dfs-loop .inv)
     (at-in-dfs-loop .dfs-loop-test .taken) (hand at-after-col-rows) (marked at-else1) (at-else3 .if3 .left) (omega
-    (arith, at-after-get2 .get2 .ensures))) (hand at-after-col-rows) (at-start .pre .1 .small) (few at-after-col-rows) in
+    (arith, at-after-get2 .get2 .ensures))) (hand at-after-col-rows) (at-start .pre .0 .small) (few at-after-col-rows) in
     (R .short, (R .cols, R .room))
 
 dfs-loop-less-4 : tie.Need-dfs-loop-less-4 Inv-dfs-loop μ-dfs-loop
