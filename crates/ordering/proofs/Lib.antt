@@ -15,6 +15,3 @@ pub mod OrderWhole
 pub mod OrderChecks
 pub mod OrderOutcome
 pub mod OrderSamples
-pub mod Searching
-pub mod Matching
-pub mod MatchingSamples

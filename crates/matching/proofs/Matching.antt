@@ -13,8 +13,8 @@ use Rattle.graph.proofs.Hall.{hall-set-refuses}
 use Rattle.graph.proofs.Paths.{augmented}
 use Rattle.graph.proofs.Search.{Visit, visit-keeps, visit-found, visit-refuses}
 use Rattle.sparse.specs.Limits.{none}
-use Rattle.ordering.specs.Matching.{search, Verdict, accepted, refused, matchFrom, matching, Deficient, Decides}
-use Rattle.ordering.proofs.Searching.{search-visits, visited-below}
+use Rattle.matching.specs.Matching.{search, Verdict, accepted, refused, matchFrom, matching, Deficient, Decides}
+use Rattle.matching.proofs.Searching.{search-visits, visited-below}
 
 -- ---- between two searches
 

@@ -15,7 +15,7 @@ use Rattle.graph.proofs.Lists.{elem-mem, elem-not, not-elem, left, left-le, lef
 use Rattle.graph.proofs.Paths.{augment-stays}
 use Rattle.graph.proofs.Search.{FirstFree, now, later, NoneFree, Visit, free, deep, Scan, done, pass, hit, miss}
 use Rattle.graph.proofs.Search.{visit-keeps, visit-once, visit-below, visit-found}
-use Rattle.ordering.specs.Matching.{freeRows, Searched, scan, search}
+use Rattle.matching.specs.Matching.{freeRows, Searched, scan, search}
 
 -- ---- the free rows of a list
 

@@ -1,0 +1,12 @@
+pub mod Searching
+pub mod Matching
+pub mod MatchingSamples
+pub mod Places
+pub mod Stamps
+pub mod Stack
+pub mod Walk
+pub mod Turns
+pub mod Falls
+pub mod Whole
+pub mod Arms
+pub mod Ready

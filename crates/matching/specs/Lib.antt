@@ -1,0 +1,4 @@
+pub mod Matching
+pub mod MatchingSamples
+pub mod Search
+pub mod Parts

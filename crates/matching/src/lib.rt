@@ -1,0 +1,2 @@
+// The matching of rows to columns.
+pub mod search;
