@@ -74,7 +74,7 @@ pub inverse-agree : {n : ℕ} {p : List ℕ} (q : List ℕ) → Permutes n p →
     → inverse n q ≡ inverse n p
 inverse-agree {n} {p} q P same =
     ext-getD 0 _ _ (length-inverse n q ∙ sym (length-inverse n p))
-      (λ c l. inverse-only (inverse n q) P hit c (rw (length-inverse n q) at l))
+    (λ c l. inverse-only (inverse n q) P hit c (rw (length-inverse n q) at l))
   where
     hit : (i : ℕ) → i < n → getD (inverse n q) (getD p i 0) 0 ≡ i
     hit i l = rw (← same i l) (inverse-inverse (permutes-agree q P same) .there-and-back i l)
