@@ -8,3 +8,4 @@ pub mod Marks
 pub mod Scans
 pub mod Tallies
 pub mod Passing
+pub mod Early

@@ -1,5 +1,5 @@
 -- The table of refusals, for any numbers and any lists: what each refusal is given for, and at which place.
-use Prim.Native.Nat.{ℕ, _+_}
+use Prim.Native.Nat.{ℕ, _+_, _≤_}
 use mathlib.Core.List.{List, [], _∷_}
 use mathlib.Core.Bool.{Bool, false, cond, _||_, _&&_, not}
 use lib.Dec.{ltb, leb, eqb}
@@ -67,6 +67,11 @@ oneShort (b ∷ bs) = ltb (b .len) (b .need) || oneShort bs
 unfoldable pub noRoom : List Buffer → Checked
 noRoom buffers = refusedIf 5 (oneShort buffers)
 
+-- every buffer is as long as its need
+abbrev pub Roomy : List Buffer → Type 0
+Roomy [] = Unit {0}
+Roomy (b ∷ bs) = (b .need ≤ b .len) × Roomy bs
+
 -- the row at place k is not below n
 abbrev pub outsideAt : ℕ → List ℕ → ℕ → Bool
 outsideAt size rows k = leb size (getD rows k 0)
@@ -74,6 +79,10 @@ outsideAt size rows k = leb size (getD rows k 0)
 -- 3: a row not below n, at its entry position
 unfoldable pub rowOutside : ℕ → List ℕ → Checked
 rowOutside size rows = refusedAt 3 (outsideAt size rows) (length rows)
+
+-- 1, 2, 5 and 3, which every entry tests before a buffer changes
+unfoldable pub early : ℕ → List ℕ → List ℕ → List Buffer → List Checked
+early size starts rows buffers = tooLarge size rows ∷ misshapen size starts rows ∷ noRoom buffers ∷ rowOutside size rows ∷ []
 
 -- one of the columns holds both places
 unfoldable pub together : ℕ → List ℕ → ℕ → ℕ → Bool

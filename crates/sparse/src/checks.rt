@@ -2,11 +2,13 @@
 ghost use mathlib.Core.Path.{_≡_};
 ghost use Prim.Native.Nat.{_+_, _-_, _≤_};
 ghost use mathlib.Core.Bool.{_||_};
+ghost use mathlib.Core.List.{List};
 ghost use lib.Dec.{ltb};
 ghost use lib.ListN.{length};
 ghost use Rattle.graph.specs.Counting.{first, some};
 ghost use Rattle.sparse.specs.Limits.{maxSize, maxEntries};
 ghost use Rattle.sparse.specs.Matrix.{Shaped, RowsBelow};
+ghost use Rattle.sparse.specs.Refusals.{firstRefusal, Buffer, oneShort, early};
 ghost use Rattle.sparse.specs.Refusals.{tooLarge, misshapen, rowOutside, repeatedRow, emptyColumn};
 ghost use Rattle.sparse.specs.Refusals.{fallsAt, outsideAt, repeatsAt, emptyAt};
 ghost use Rattle.sparse.specs.Parts.{ZeroBelow, Unmarked, Scanned, Tallied, Counted, marked};
@@ -104,6 +106,26 @@ pub fn check_rows(size: u32, rows: &[u32]) -> Checked
         return refuse(3, first_outside(size, rows));
     }
     Checked::Passed
+}
+
+// Refusals 1, 2, 5 and 3, which leave every buffer as it is; the caller has tested its buffers.
+pub fn check_early(size: u32, starts: &[u32], rows: &[u32], short: bool) -> Checked
+    ensures { λ r. ⌜ ((buffers : List Buffer) → short ≡ oneShort buffers
+        → r ≡ firstRefusal (early size (now (starts .entry)) (now (rows .entry)) buffers)) ⌝ }
+{
+    let large = check_size(size, rows);
+    if let Checked::Refused(r) = large {
+        return Checked::Refused(r);
+    }
+    let shape = check_shape(size, starts, rows);
+    if let Checked::Refused(r) = shape {
+        return Checked::Refused(r);
+    }
+    let room = refuse_if(5, short);
+    if let Checked::Refused(r) = room {
+        return Checked::Refused(r);
+    }
+    check_rows(size, rows)
 }
 
 // Marks the rows from place lo on, up to the first that is marked already, and says where that stands, or hi.

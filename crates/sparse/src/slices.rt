@@ -2,7 +2,8 @@
 // After inlining none of these costs anything.
 ghost use mathlib.Core.Path.{_≡_};
 ghost use Prim.Native.Nat.{_<_, _≤_};
-ghost use lib.ListN.{length, getD, set};
+ghost use mathlib.Core.List.{_++_};
+ghost use lib.ListN.{length, getD, set, replicate, drop};
 ghost use Rattle.sparse.specs.Buffers.{zeroed};
 use super::Column;
 use super::OriginalRow;
@@ -78,14 +79,22 @@ pub fn put_by_row(s: &mut [u32], r: OriginalRow, v: u32)
     s[i] = v;
 }
 
+// The first k numbers become v.
+pub fn fill(s: &mut [u32], k: u32, v: u32)
+    requires { ⌜ k ≤ length (now s) ⌝ }
+    ensures { λ _. ⌜ now (s .exit) ≡ replicate k v ++ drop k (now (s .entry)) ⌝ }
+{
+    let mut i = 0u32;
+    while i < k {
+        put(s, i, v);
+        i += 1;
+    }
+}
+
 // The first k numbers become zero.
 pub fn clear(s: &mut [u32], k: u32)
     requires { ⌜ k ≤ length (now s) ⌝ }
     ensures { λ _. ⌜ now (s .exit) ≡ zeroed k (now (s .entry)) ⌝ }
 {
-    let mut i = 0u32;
-    while i < k {
-        put(s, i, 0);
-        i += 1;
-    }
+    fill(s, k, 0);
 }

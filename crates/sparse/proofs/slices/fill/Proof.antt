@@ -1,20 +1,19 @@
--- `clear` meets its contract. The invariant: the first i are zero, the rest is as it was.
+-- `fill` meets its contract. The invariant: the first i are v, the rest is as it was.
 use Prim.Native.Nat.{ℕ, _≤_, _-_}
 use mathlib.Core.Path.{_≡_, sym, _∙_, ap}
-use mathlib.Core.List.{List}
+use mathlib.Core.List.{List, _++_}
 use native.Mathlib.Omega.{arith}
 use borrow.Author.Needs.{needs}
 use borrow.Author.Fill.{fill-more}
-use lib.ListN.{length, set}
-use Rattle.sparse.specs.Buffers.{zeroed}
-use Rattle.sparse.proofs.slices.clear.Statement.{statement}
-use Rattle.sparse.proofs.slices.clear.Tie as tie
+use lib.ListN.{length, set, replicate, drop}
+use Rattle.sparse.proofs.slices.fill.Statement.{statement}
+use Rattle.sparse.proofs.slices.fill.Tie as tie
 
 abbrev Inv-loop : tie.InvT-loop
-Inv-loop s₀ k i₀ s i = (i ≤ k) × (length s ≡ length s₀) × (s ≡ zeroed i s₀)
+Inv-loop s₀ k v i₀ s i = (i ≤ k) × (length s ≡ length s₀) × (s ≡ replicate i v ++ drop i s₀)
 
 abbrev μ-loop : tie.MeasureT-loop
-μ-loop s₀ k i₀ s i = k - i
+μ-loop s₀ k v i₀ s i = k - i
 
 loop-holds : tie.Need-loop-holds Inv-loop μ-loop
 loop-holds c = search needs
@@ -35,8 +34,8 @@ loop-again c =
     let at-start = at-loop .before .before in (
       omega arith,
       search needs,
-      at-after-put .put .ensures ∙ ap (λ (v : List ℕ). set v (at-loop .loop .i) 0) (at-loop .loop .inv .2)
-          ∙ fill-more (at-loop .loop .i) 0 (at-start .args .s .now) (omega arith),
+      at-after-put .put .ensures ∙ ap (λ (t : List ℕ). set t (at-loop .loop .i) (at-start .args .v)) (at-loop .loop .inv .2)
+          ∙ fill-more (at-loop .loop .i) (at-start .args .v) (at-start .args .s .now) (omega arith),
     )
 
 same-length : tie.Need-same-length Inv-loop μ-loop
@@ -49,8 +48,8 @@ returns c =
     let e : at-loop .loop .i ≡ at-start .args .k = omega arith in
     rw (sym e) (at-loop .loop .inv .2)
 
-pub clear-spec : {M : Type 1} → statement M
-clear-spec =
+pub fill-spec : {M : Type 1} → statement M
+fill-spec =
     tie.close
     (tie.spec
     Inv-loop

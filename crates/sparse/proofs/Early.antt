@@ -1,0 +1,46 @@
+-- What 1, 2, 5 and 3 let through, and that they let it through.
+use Prim.Native.Nat.{ℕ, _≤_}
+use mathlib.Core.Path.{_≡_, _∙_}
+use mathlib.Core.List.{List, [], _∷_}
+use Rattle.sparse.specs.Matrix.{Shaped, RowsBelow}
+use Rattle.sparse.specs.Refusals.{firstRefusal, Buffer, noRoom, Roomy, early}
+use Rattle.sparse.specs.declared.Checked.the-variants.{Passed}
+use Rattle.sparse.proofs.Refusals.{first-passed, first-last, head-passed, tail-passed}
+use Rattle.sparse.proofs.Room.{room-head, room-tail}
+use Rattle.sparse.proofs.Matrix.{shaped, rows-below}
+use Rattle.sparse.proofs.Passing.{size-passes, shape-passes, room-none, room-more, rows-pass}
+
+-- buffers that pass are as long as their needs
+pub roomy : (bs : List Buffer) → noRoom bs ≡ Passed → Roomy bs
+roomy [] e = tt
+roomy (b ∷ bs) e = (room-head b bs e, roomy bs (room-tail b bs e))
+
+-- and those that are pass
+pub roomy-passes : (bs : List Buffer) → Roomy bs → noRoom bs ≡ Passed
+roomy-passes [] r = room-none
+roomy-passes (b ∷ bs) r = room-more b bs (r .0) (roomy-passes bs (r .1))
+
+-- a pattern of the right shape whose rows are below n, and room in every buffer
+pub record Early (size : ℕ) (starts rows : List ℕ) (buffers : List Buffer) : Type 0 where
+  pub shaped : Shaped size starts rows
+  pub below : RowsBelow rows size
+  pub room : Roomy buffers
+
+pub early-passed : (size : ℕ) (starts rows : List ℕ) (buffers : List Buffer)
+    → firstRefusal (early size starts rows buffers) ≡ Passed → Early size starts rows buffers
+unfolding early
+early-passed size starts rows buffers e =
+    let shape = tail-passed _ _ e in
+    let room = tail-passed _ _ shape in
+    record {
+      shaped = shaped size starts rows (head-passed _ _ e) (head-passed _ _ shape);
+      below = rows-below size rows (head-passed _ _ (tail-passed _ _ room));
+      room = roomy buffers (head-passed _ _ room);
+    }
+
+pub early-passes : {size : ℕ} {starts rows : List ℕ} (buffers : List Buffer) → Shaped size starts rows → RowsBelow rows size
+    → Roomy buffers → firstRefusal (early size starts rows buffers) ≡ Passed
+unfolding early
+early-passes {size} {starts} {rows} buffers s b r =
+    first-passed _ _ (size-passes size rows (s .small) (s .few)) ∙ first-passed _ _ (shape-passes s)
+    ∙ first-passed _ _ (roomy-passes buffers r) ∙ first-last _ ∙ rows-pass size rows b
