@@ -9,7 +9,7 @@ use Rattle.graph.specs.Counting.{count, some, preimage}
 use Rattle.graph.specs.Matchings.{Row, Col, Pattern, Entry, Perfect, Partial}
 use Rattle.graph.specs.Hall.{RowsOf, HallSet}
 use Rattle.graph.proofs.Bools.{apart, and-left, and-right, and-both}
-use Rattle.graph.proofs.Counting.{without, without-self, without-other, count-minus, pigeon, some-at, some-is}
+use Rattle.graph.proofs.Counting.{without, without-self, without-other, count-ext, count-minus, pigeon, some-at, some-is}
 use Rattle.graph.proofs.Lists.{elem-mem, mem-elem}
 use Rattle.graph.proofs.Matchings.{Matched, Unmatched, row-of}
 
@@ -29,6 +29,18 @@ no-perfect {n} {col} {h} {q} Q few f M =
 -- a pattern with a Hall set has no perfect matching
 pub hall-set-refuses : {n : ℕ} {col : Pattern} {h : Col → Bool} → HallSet n col h → (f : Row → Col) → ¬ Perfect n col f
 hall-set-refuses H = no-perfect (H .rows-of) (omega (arith, H .one-less))
+
+-- what agrees with a Hall set below n is one
+pub hall-set-agree : {n : ℕ} {col : Pattern} {h : Col → Bool} (g : Col → Bool) → HallSet n col h → ((c : Col) → c < n → g c ≡ h c)
+    → HallSet n col g
+hall-set-agree {n} {col} {h} g H same = record {
+  rows = H .rows;
+  rows-of = record {
+    has = λ c r l k e x. H .rows-of .has c r l k (sym (same c l) ∙ e) x;
+    only = λ r l e. let t = H .rows-of .only r l e in (t .0, t .1, same (t .0) (t .1) ∙ t .2, t .3);
+  };
+  one-less = H .one-less ∙ sym (count-ext g h n same);
+}
 
 -- what a search from column c₀ that failed leaves: h are the columns that it visited
 pub record Failed (n : ℕ) (col : Pattern) (f : Row → Col) (c₀ : Col) (h : Col → Bool) : Type 0 where

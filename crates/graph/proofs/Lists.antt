@@ -141,6 +141,12 @@ getD-table f zero i l = absurd (not-suc-le-zero l)
 getD-table f (suc n) zero l = refl
 getD-table f (suc n) (suc i) l = getD-table (λ k. f (suc k)) n i (le-of-suc-le-suc l)
 
+-- functions that agree below n have one table
+pub table-ext : (f g : ℕ → ℕ) (n : ℕ) → ((i : ℕ) → i < n → f i ≡ g i) → table f n ≡ table g n
+unfolding table
+table-ext f g zero h = refl
+table-ext f g (suc n) h = rw (h 0 (omega arith), table-ext (λ k. f (suc k)) (λ k. g (suc k)) n (λ i l. h (suc i) (omega arith)))
+
 pub range-is : (n x : ℕ) → Mem x (range n) ↔ x < n
 unfolding range
 range-is n x = (

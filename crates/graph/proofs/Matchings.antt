@@ -24,6 +24,15 @@ row-of {n} {col} {f} M c l =
     let t = onto f n (M .inside) (M .once) c l in
     preimage-ok f n c (t .0) (t .1) (t .2)
 
+-- what agrees with a perfect matching below n is one
+pub perfect-agree : {n : ℕ} {col : Pattern} {f : Row → Col} (g : Row → Col) → Perfect n col f → ((r : Row) → r < n → g r ≡ f r)
+    → Perfect n col g
+perfect-agree {n} g M h = record {
+  inside = λ r l. rw (h r l) (M .inside r l);
+  on = λ r l. rw (h r l) (M .on r l);
+  once = λ r s l k e. M .once r s l k (sym (h r l) ∙ e ∙ h s k);
+}
+
 -- a partial matching that gives every column to a row is perfect
 pub full-perfect : {n : ℕ} {col : Pattern} {f : Row → Col} → Partial n col f → ((c : Col) → c < n → Matched n f c) → Perfect n col f
 full-perfect {n} {col} {f} P all =

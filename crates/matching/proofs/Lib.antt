@@ -1,4 +1,5 @@
 pub mod Searching
+pub mod Front
 pub mod Matching
 pub mod MatchingSamples
 pub mod Places
@@ -10,3 +11,6 @@ pub mod Falls
 pub mod Whole
 pub mod Arms
 pub mod Ready
+pub mod Columns
+pub mod Outcome
+pub mod Marking

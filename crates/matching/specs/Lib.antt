@@ -1,4 +1,5 @@
 pub mod Matching
 pub mod MatchingSamples
 pub mod Search
+pub mod Outcome
 pub mod Parts

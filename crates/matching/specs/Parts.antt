@@ -1,10 +1,15 @@
--- What only private functions cite: where a scan of a column's rows stops, and how a search goes on from there.
+-- What only private functions cite: where a scan of a column's rows stops, how a search goes on from there, and how all of them end.
 use Prim.Native.Nat.{ℕ, _+_, _≤_, _<_}
 use mathlib.Core.Path.{_≡_}
 use mathlib.Core.Logic.{_≢_}
 use mathlib.Core.List.{List}
-use lib.ListN.{length, getD, set}
+use lib.Dec.{eqb}
+use lib.ListN.{length, getD, set, take, drop, replicate}
+use Rattle.graph.specs.Lists.{elem}
 use Rattle.graph.specs.Matchings.{Row, Col, partner}
+use Rattle.sparse.specs.Limits.{none}
+use Rattle.sparse.specs.Parts.{ZeroBelow}
+use Rattle.matching.specs.Matching.{Verdict, accepted, refused}
 
 -- the column that has the row at place k
 abbrev pub colAt : List Col → List Row → ℕ → Col
@@ -29,3 +34,24 @@ pub data Advance (mark : ℕ) (stamps m : List Col) (rs : List Row) (top from : 
   -- the first open one is put on
   down : (k : ℕ) → OpenPlace mark stamps m rs from k → k < length rs
       → Advance mark stamps m rs top from cs ps (set cs (top + 1) (colAt m rs k)) (set ps top k) (top + 2)
+
+-- no column is visited, no row was looked at, every row is free, and there is room: what the searches of all columns need
+pub record Fresh (n : ℕ) (visited cheap scol sat row2col : List ℕ) : Type 0 where
+  pub unvisited : ZeroBelow n visited
+  pub unlooked : ZeroBelow n cheap
+  pub free : take n row2col ≡ replicate n none
+  pub visited-long : n ≤ length visited
+  pub cheap-long : n ≤ length cheap
+  pub cols-long : n ≤ length scol
+  pub places-long : n ≤ length sat
+  pub matching-long : n ≤ length row2col
+
+-- how the searches end with a verdict: at n, with the matching; or at the column that failed, whose stamp the visited columns have
+abbrev pub EndsAt : ℕ → List ℕ → List Col → ℕ → Verdict → Type 0
+EndsAt n visited row2col r (accepted m) = (r ≡ n) × (take n row2col ≡ m)
+EndsAt n visited row2col r (refused c seen) =
+    (r ≡ c) × (c < n) × ((d : Col) → d < n → eqb (getD visited d 0) (c + 1) ≡ elem d seen)
+
+-- a slice is as it was beyond its first n
+abbrev pub SameBeyond : ℕ → List ℕ → List ℕ → Type 0
+SameBeyond n before after = drop n after ≡ drop n before

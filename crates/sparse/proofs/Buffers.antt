@@ -1,10 +1,13 @@
 -- Laws of a lent buffer whose front is zeroed or filled: its length, and what stands where.
-use Prim.Native.Nat.{ℕ, _+_, _-_, _<_, _≤_}
+use Prim.Native.Nat.{ℕ, zero, suc, _+_, _-_, _<_, _≤_}
 use mathlib.Core.Path.{_≡_, refl, sym, ap, _∙_}
-use mathlib.Core.List.{List, _++_}
+use mathlib.Core.List.{List, [], _∷_, _++_}
 use native.Mathlib.Omega.{arith}
-use lib.ListN.{length, getD, drop, replicate, length-append, length-drop, length-replicate, getD-replicate, List·getD-append}
-use lib.Seq.{drop-at, getD-append-add, getD-drop}
+use lib.ListN.{length, getD, set, take, drop, replicate, length-append, length-drop, length-replicate, getD-replicate, List·getD-append}
+use lib.ListN.{take-append-drop}
+use lib.Seq.{drop-at, getD-append-add, getD-drop, length-take-le}
+use Rattle.graph.specs.Lists.{table}
+use Rattle.graph.proofs.Lists.{length-table}
 use Rattle.sparse.specs.Buffers.{zeroed, filled}
 use Rattle.sparse.specs.Parts.{ZeroBelow}
 
@@ -52,3 +55,25 @@ filled-past ys xs i l = past (length ys) ys xs i refl l
 
 pub drop-filled : (ys xs : List ℕ) → drop (length ys) (filled ys xs) ≡ drop (length ys) xs
 drop-filled ys xs = drop-at ys (drop (length ys) xs) (length ys) refl
+
+-- ---- filled with a table, from the front
+
+table-suc : (f : ℕ → ℕ) (n : ℕ) (xs : List ℕ) → n < length xs → set (table f n ++ drop n xs) n (f n) ≡ table f (suc n) ++ drop (suc n) xs
+unfolding table
+table-suc f n [] l = absurd (omega arith)
+table-suc f zero (x ∷ xs) l = refl
+table-suc f (suc n) (x ∷ xs) l = ap (λ (t : List ℕ). f 0 ∷ t) (table-suc (λ k. f (suc k)) n xs (omega arith))
+
+-- one number more
+pub table-more : (f : ℕ → ℕ) (n : ℕ) (xs : List ℕ) → n < length xs → set (table f n ++ drop n xs) n (f n) ≡ table f (n + 1) ++ drop (n + 1) xs
+table-more f n xs l = let e : n + 1 ≡ suc n = omega arith in rw e (table-suc f n xs l)
+
+-- and all of them
+pub table-filled : (f : ℕ → ℕ) (n : ℕ) (xs : List ℕ) → table f n ++ drop n xs ≡ filled (table f n) xs
+table-filled f n xs = ap (λ (k : ℕ). table f n ++ drop k xs) (sym (length-table f n))
+
+-- a buffer whose front is a list of n, and whose rest is another's, is the other filled with that list
+pub front-filled : (n : ℕ) (ys xs zs : List ℕ) → n ≤ length zs → take n zs ≡ ys → drop n zs ≡ drop n xs → zs ≡ filled ys xs
+front-filled n ys xs zs l e f =
+    let k : length ys ≡ n = ap length (sym e) ∙ length-take-le n zs l in
+    sym (take-append-drop n zs) ∙ rw (e, f, k)

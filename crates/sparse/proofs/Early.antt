@@ -1,11 +1,14 @@
 -- What 1, 2, 5 and 3 let through, and that they let it through.
 use Prim.Native.Nat.{ℕ, _≤_}
-use mathlib.Core.Path.{_≡_, _∙_}
+use mathlib.Core.Path.{_≡_, sym, _∙_}
+use mathlib.Core.Logic.{⊎-elim}
 use mathlib.Core.List.{List, [], _∷_}
 use Rattle.sparse.specs.Matrix.{Shaped, RowsBelow}
-use Rattle.sparse.specs.Refusals.{firstRefusal, Buffer, noRoom, Roomy, early}
-use Rattle.sparse.specs.declared.Checked.the-variants.{Passed}
-use Rattle.sparse.proofs.Refusals.{first-passed, first-last, head-passed, tail-passed}
+use native.Mathlib.Omega.{arith}
+use Rattle.sparse.specs.Refusals.{firstRefusal, Buffer, noRoom, Roomy, early, tooLarge, misshapen, rowOutside, repeatedRow}
+use Rattle.sparse.specs.declared.Checked.the-variants.{Passed, Refused}
+use Rattle.sparse.specs.declared.Refusal.{Refusal}
+use Rattle.sparse.proofs.Refusals.{first-passed, first-last, head-passed, tail-passed, which, number-if, number-at}
 use Rattle.sparse.proofs.Room.{room-head, room-tail}
 use Rattle.sparse.proofs.Matrix.{shaped, rows-below}
 use Rattle.sparse.proofs.Passing.{size-passes, shape-passes, room-none, room-more, rows-pass}
@@ -44,3 +47,18 @@ unfolding early
 early-passes {size} {starts} {rows} buffers s b r =
     first-passed _ _ (size-passes size rows (s .small) (s .few)) ∙ first-passed _ _ (shape-passes s)
     ∙ first-passed _ _ (roomy-passes buffers r) ∙ first-last _ ∙ rows-pass size rows b
+
+-- what they refuse has a number of theirs
+pub early-number : (size : ℕ) (starts rows : List ℕ) (buffers : List Buffer) (r : Refusal)
+    → firstRefusal (early size starts rows buffers) ≡ Refused r → r .number ≤ 5
+unfolding early tooLarge misshapen noRoom rowOutside
+early-number size starts rows buffers r e =
+    ⊎-elim (λ f. omega (arith, number-if 1 _ r f)) (λ e₁.
+    ⊎-elim (λ f. omega (arith, number-if 2 _ r f)) (λ e₂.
+    ⊎-elim (λ f. omega (arith, number-if 5 _ r f)) (λ e₃. omega (arith, number-at 3 _ _ r (sym (first-last _) ∙ e₃)))
+    (which _ _ r e₂)) (which _ _ r e₁)) (which _ _ r e)
+
+-- what 4 refuses has number 4
+pub repeats-number : (size : ℕ) (starts rows : List ℕ) (r : Refusal) → repeatedRow size starts rows ≡ Refused r → r .number ≡ 4
+unfolding repeatedRow
+repeats-number size starts rows r e = number-at 4 _ _ r e
