@@ -11,7 +11,8 @@ use Rattle.graph.specs.Matchings.{Row, Col, Pattern}
 use Rattle.graph.proofs.Lists.{getD-mem}
 use Rattle.sparse.specs.Limits.{maxSize, maxEntries}
 use Rattle.sparse.specs.Matrix.{RowsBelow}
-use Rattle.matching.specs.Parts.{colAt, FreePlace, Advance}
+use Rattle.matching.specs.Parts.{colAt, Advance}
+use Rattle.matching.proofs.Places.{Passing, stop-free, stop-none}
 use Rattle.matching.proofs.Stamps.{length-stamped}
 use Rattle.matching.proofs.Stack.{Goal}
 use Rattle.matching.proofs.Walk.{Slices, Stage, entering, failing, finding, Walk, Scanning}
@@ -62,23 +63,24 @@ place-below {g} {mark} {depth} {v = v} {cs = cs} {ps = ps} {r = r} {hit = hit} {
 -- ---- the arms
 
 -- a first visit finds a free row
-pub arm-free : {g : Goal} {mark depth : ℕ} {v₀ h₀ cs₀ ps₀ v h cs ps r : List ℕ} {hit : Bool} {c : Col} {rs : List Row} {from q : ℕ}
-    {v′ h′ r′ : List ℕ} {e : Row} → Walk g mark v₀ h₀ cs₀ ps₀ v h cs ps r hit depth → 0 < depth → Hand (g .col) cs (depth - 1) c rs
-    → getD v c 0 ≢ mark → FreePlace (g .n) r rs from q → from ≡ getD h c 0 → q < length rs
-    → v′ ≡ set v c mark → h′ ≡ set h c q → e ≡ getD rs q 0 → r′ ≡ set r e c
+pub arm-free : {g : Goal} {mark depth : ℕ} {v₀ h₀ cs₀ ps₀ v h cs ps r : List ℕ} {hit : Bool} {c : Col} {rs : List Row} {from q b : ℕ}
+    {h₁ r₁ : List ℕ} {hit₁ : Bool} {v′ h′ r′ : List ℕ} {e : Row} → Walk g mark v₀ h₀ cs₀ ps₀ v h cs ps r hit depth → 0 < depth
+    → Hand (g .col) cs (depth - 1) c rs → getD v c 0 ≢ mark → Passing (g .n) rs from h r hit h₁ r₁ hit₁ q → from ≡ getD h c 0
+    → q < length rs → e ≡ getD rs q 0 → b ≡ getD r₁ e 0 → g .n ≤ b → v′ ≡ set v c mark → h′ ≡ set h₁ c q → r′ ≡ set r₁ e c
     → Walk g mark v₀ h₀ cs₀ ps₀ v′ h′ cs ps r′ true (depth - 1)
-arm-free W l H ne F z lq ev eh ee er =
-    rw (ev, eh, er, ee, H .rows, H .column)
-    (turn-free (at-top W l) (rw (H .column) at ne) (rw (H .rows, z, H .column) at F) (rw (H .rows, H .column) at lq))
+arm-free W l H ne P z lq ee eb free ev eh er =
+    rw (ev, eh, er, P .cheap-same, P .matching-same, ee, H .rows, H .column)
+    (turn-free (at-top W l) (rw (H .column) at ne) (rw (H .rows, z, H .column) at (stop-free P ee eb free))
+    (rw (H .rows, H .column) at lq))
 
 -- it finds none
 pub arm-none : {g : Goal} {mark depth : ℕ} {v₀ h₀ cs₀ ps₀ v h cs ps r : List ℕ} {hit : Bool} {c : Col} {rs : List Row} {from q : ℕ}
-    {v′ h′ : List ℕ} → Walk g mark v₀ h₀ cs₀ ps₀ v h cs ps r hit depth → 0 < depth → Hand (g .col) cs (depth - 1) c rs
-    → getD v c 0 ≢ mark → FreePlace (g .n) r rs from q → from ≡ getD h c 0 → length rs ≤ q → v′ ≡ set v c mark → h′ ≡ set h c q
-    → Scanning g mark v₀ h₀ cs₀ ps₀ v′ h′ cs ps r hit (depth - 1) 0
-arm-none W l H ne F z lq ev eh =
-    rw (ev, eh, H .column)
-    (turn-none (at-top W l) (rw (H .column) at ne) (rw (H .rows, z, H .column) at F) (rw (H .rows, H .column) at lq))
+    {h₁ r₁ : List ℕ} {hit₁ : Bool} {v′ h′ : List ℕ} → Walk g mark v₀ h₀ cs₀ ps₀ v h cs ps r hit depth → 0 < depth
+    → Hand (g .col) cs (depth - 1) c rs → getD v c 0 ≢ mark → Passing (g .n) rs from h r hit h₁ r₁ hit₁ q → from ≡ getD h c 0
+    → length rs ≤ q → v′ ≡ set v c mark → h′ ≡ set h₁ c q → Scanning g mark v₀ h₀ cs₀ ps₀ v′ h′ cs ps r₁ hit₁ (depth - 1) 0
+arm-none W l H ne P z lq ev eh =
+    rw (ev, eh, P .cheap-same, P .matching-same, P .found-same, H .column)
+    (turn-none (at-top W l) (rw (H .column) at ne) (rw (H .rows, z, H .column) at (stop-none P lq)) (rw (H .rows, H .column) at lq))
 
 -- a visit failed
 pub arm-again : {g : Goal} {mark depth : ℕ} {v₀ h₀ cs₀ ps₀ v h cs ps r : List ℕ} {hit : Bool} {c : Col} {rs : List Row} {from : ℕ}
@@ -148,9 +150,10 @@ fall-free {g} {mark} {depth} {v = v} {cs = cs} {v′ = v′} W l H ne ev =
 
 -- with none found
 pub fall-none : {g : Goal} {mark depth : ℕ} {v₀ h₀ cs₀ ps₀ v h cs ps r : List ℕ} {hit : Bool} {c : Col} {rs : List Row} {from : ℕ}
-    {v′ h′ cs′ ps′ : List ℕ} {d : ℕ} → Walk g mark v₀ h₀ cs₀ ps₀ v h cs ps r hit depth → 0 < depth → Hand (g .col) cs (depth - 1) c rs
-    → getD v c 0 ≢ mark → v′ ≡ set v c mark → Scanning g mark v₀ h₀ cs₀ ps₀ v′ h′ cs ps r hit (depth - 1) from
-    → Advance mark v′ r rs (depth - 1) from cs ps cs′ ps′ d → weight (g .n) mark v′ cs′ d < weight (g .n) mark v cs depth
+    {r₁ : List ℕ} {hit₁ : Bool} {v′ h′ cs′ ps′ : List ℕ} {d : ℕ} → Walk g mark v₀ h₀ cs₀ ps₀ v h cs ps r hit depth → 0 < depth
+    → Hand (g .col) cs (depth - 1) c rs → getD v c 0 ≢ mark → v′ ≡ set v c mark
+    → Scanning g mark v₀ h₀ cs₀ ps₀ v′ h′ cs ps r₁ hit₁ (depth - 1) from → Advance mark v′ r₁ rs (depth - 1) from cs ps cs′ ps′ d
+    → weight (g .n) mark v′ cs′ d < weight (g .n) mark v cs depth
 fall-none {g} {mark} {depth} {v = v} {cs = cs} {v′ = v′} W l H ne ev A B =
     let e : suc (depth - 1) ≡ depth = omega arith in
     let less : within (g .n) mark v′ (depth - 1) < weight (g .n) mark v cs depth =

@@ -1,9 +1,9 @@
 -- The searches of all columns, one after the other, follow the rule: what holds between two, and how they end.
 use Prim.Native.Nat.{ℕ, zero, suc, _+_, _-_, _<_, _≤_}
-use mathlib.Core.Path.{_≡_, refl, sym, ap, _∙_, fun-ext}
+use mathlib.Core.Path.{_≡_, refl, sym, ap, _∙_, subst, fun-ext}
 use mathlib.Core.Bool.{Bool, true, false}
 use mathlib.Core.List.{List, [], _∷_, List·Memᴰ·head, List·Memᴰ·tail}
-use mathlib.Core.Logic.{_↔_}
+use mathlib.Core.Logic.{_↔_, inr}
 use native.Mathlib.Decide.{ℕ-discrete}
 use native.Mathlib.Omega.{arith}
 use borrow.Author.Tests.{eq-eqb, ne-eqb}
@@ -215,3 +215,14 @@ going-end {n} {col} {c} {v = v} {m = m} G l =
     let z : n - c ≡ 0 = omega arith in
     let w : matchFrom n col (n - c) c (take n m) ≡ accepted (take n m) = ap (λ (x : ℕ). matchFrom n col x c (take n m)) z in
     rw (sym (G .leads), w) (e, refl)
+
+-- ---- in storage, with no column replaced
+
+pub searches-start : {size : ℕ} {starts rows visited cheap scol sat row2col : List ℕ} → Shaped size starts rows → RowsBelow rows size
+    → Fresh size visited cheap scol sat row2col
+    → Going size (columnOr starts rows none []) 0 visited cheap scol sat row2col visited cheap scol sat row2col
+searches-start S low F = going-start (inside-or none [] S low (λ k l. absurd (omega arith)) (inr refl)) (short-or none [] S (omega arith)) F
+
+pub ends-unedited : {size : ℕ} {starts rows : List ℕ} (visited row2col : List ℕ) (r : ℕ) → Shaped size starts rows
+    → EndsAt size visited row2col r (matching size (columnOr starts rows none [])) → EndsAt size visited row2col r (matching size (column starts rows))
+ends-unedited {size} visited row2col r S E = subst (λ col. EndsAt size visited row2col r (matching size col)) (unedited [] S refl) E

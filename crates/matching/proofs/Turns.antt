@@ -14,9 +14,9 @@ use Rattle.graph.specs.Matchings.{Col, partner}
 use Rattle.graph.proofs.Lists.{once-room, getD-mem}
 use Rattle.graph.proofs.Paths.{unwind}
 use Rattle.matching.specs.Search.{Cheap}
-use Rattle.matching.specs.Parts.{colAt, FreePlace, OpenPlace, Advance, back, down}
+use Rattle.matching.specs.Parts.{colAt, OpenPlace, Advance, back, down}
 use Rattle.matching.proofs.Stamps.{kept-set}
-use Rattle.matching.proofs.Places.{free-before, free-here, free-nowhere}
+use Rattle.matching.proofs.Places.{FreePlace, free-before, free-here, free-nowhere}
 use Rattle.matching.proofs.Stack.{Goal, Into, ret-agree, top-past, top-end, step-into, into-free, into-none}
 use Rattle.matching.proofs.Walk.{Slices, entering, failing, finding, Walk, Scanning}
 use Rattle.matching.proofs.Walk.{is-visited, has-stamp, at-new, at-failed, at-found}

@@ -1,4 +1,5 @@
--- What only private functions cite: where a scan of a column's rows stops, how a search goes on from there, and how all of them end.
+-- What the parts of the matching say to one another: where a scan of a column's rows stops, how a search goes on from there,
+-- and how all of them end. No public contract cites these.
 use Prim.Native.Nat.{ℕ, _+_, _≤_, _<_}
 use mathlib.Core.Path.{_≡_}
 use mathlib.Core.Logic.{_≢_}
@@ -14,12 +15,6 @@ use Rattle.matching.specs.Matching.{Verdict, accepted, refused}
 -- the column that has the row at place k
 abbrev pub colAt : List Col → List Row → ℕ → Col
 colAt m rs k = partner m (getD rs k 0)
-
--- r is the first place from `from` on whose row is free, or behind the last place
-pub record FreePlace (n : ℕ) (m : List Col) (rs : List Row) (from r : ℕ) : Type 0 where
-  pub from-on : from ≤ r
-  pub before : (k : ℕ) → from ≤ k → k < r → colAt m rs k < n
-  pub here : r < length rs → n ≤ colAt m rs r
 
 -- r is the first place from `from` on whose row's column has another stamp than mark, or behind the last place
 pub record OpenPlace (mark : ℕ) (stamps m : List Col) (rs : List Row) (from r : ℕ) : Type 0 where

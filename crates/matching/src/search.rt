@@ -6,7 +6,7 @@ ghost use lib.ListN.{length, getD, drop};
 ghost use Rattle.sparse.specs.Limits.{maxSize, maxEntries};
 ghost use Rattle.sparse.specs.Matrix.{columnOr, RowsBelow, Shaped};
 ghost use Rattle.matching.specs.Search.{SearchReady, SearchEnds};
-ghost use Rattle.matching.specs.Parts.{colAt, FreePlace, OpenPlace, Advance};
+ghost use Rattle.matching.specs.Parts.{colAt, OpenPlace, Advance};
 use sparse::Column;
 use sparse::columns::col_rows;
 use sparse::slices::by_column;
@@ -27,23 +27,8 @@ fn col_at(col: &[u32], row2col: &[u32], k: u32) -> Column
     Column(by_row(row2col, row_at(col, k)))
 }
 
-// The first place of a column's rows, from a place on, whose row is free; behind the last where there is none.
-fn scan_free(size: u32, col: &[u32], row2col: &[u32], from: u32) -> u32
-    requires { ⌜ (length (now col) ≤ maxEntries) × RowsBelow (now col) (length (now row2col)) ⌝ }
-    ensures { λ r. ⌜ FreePlace size (now (row2col .entry)) (now (col .entry)) from r ⌝ }
-{
-    let mut k = from;
-    while k < col.len() as u32 {
-        if size <= col_at(col, row2col, k).0 {
-            return k;
-        }
-        k += 1;
-    }
-    k
-}
-
 // The first place of a column's rows, from a place on, whose row's column is not visited; behind the last where there is none.
-fn scan_next(col: &[u32], row2col: &[u32], visited: &[u32], mark: u32, from: u32) -> u32
+pub fn scan_next(col: &[u32], row2col: &[u32], visited: &[u32], mark: u32, from: u32) -> u32
     requires { ⌜ (length (now col) ≤ maxEntries) × RowsBelow (now col) (length (now row2col)) ⌝ }
     requires { ⌜ ((k : ℕ) → k < length (now col) → colAt (now row2col) (now col) k < length (now visited)) ⌝ }
     ensures { λ r. ⌜ OpenPlace mark (now (visited .entry)) (now (row2col .entry)) (now (col .entry)) from r ⌝ }
@@ -60,7 +45,7 @@ fn scan_next(col: &[u32], row2col: &[u32], visited: &[u32], mark: u32, from: u32
 
 // Goes on from the step on top, whose rows from a place on are to be scanned: the first column that is not visited is put on the stack,
 // or the step is taken off. Returns the stack's depth.
-fn advance(
+pub fn advance(
     col: &[u32],
     row2col: &[u32],
     visited: &[u32],
@@ -119,14 +104,21 @@ pub fn search<'a>(
         let col = col_rows(size, starts, rows, edited, replacement, c);
         if by_column(visited, c) != mark {
             put_by_column(visited, c, mark);
-            let k = scan_free(size, col, row2col, by_column(cheap, c));
-            put_by_column(cheap, c, k);
-            if k < col.len() as u32 {
-                put_by_row(row2col, row_at(col, k), c.0);
-                found = true;
-                depth = top;
-                continue 'dfs_loop;
+            // A matched row stays matched, so the scan for a free one starts where this column's last scan stopped.
+            let len = col.len() as u32;
+            let mut k = by_column(cheap, c);
+            while k < len {
+                let r = row_at(col, k);
+                if size <= by_row(row2col, r) {
+                    put_by_column(cheap, c, k);
+                    put_by_row(row2col, r, c.0);
+                    found = true;
+                    depth = top;
+                    continue 'dfs_loop;
+                }
+                k += 1;
             }
+            put_by_column(cheap, c, k);
             depth = advance(col, row2col, visited, mark, top, 0, scol, sat);
         } else if found {
             put_by_row(row2col, row_at(col, get(sat, top)), c.0);
