@@ -20,7 +20,7 @@ use Rattle.sparse.specs.Limits.{none, maxSize, maxEntries}
 use Rattle.sparse.specs.Matrix.{column, columnOr, Shaped, RowsBelow}
 use Rattle.sparse.proofs.Matrix.{column-beyond}
 use Rattle.matching.specs.Matching.{search, Verdict, accepted, refused, matchFrom, matching}
-use Rattle.matching.specs.Parts.{Fresh, EndsAt}
+use Rattle.matching.specs.Parts.{Fresh, EndsAt, SameBeyond}
 use Rattle.matching.specs.Search.{Unstamped, stamped, Cheap, isFound, moved, SearchReady, SearchEnds}
 use Rattle.matching.proofs.Front.{agree-take, search-agree, take-moved, drop-moved}
 use Rattle.matching.proofs.Matching.{match-found, match-failed}
@@ -55,6 +55,14 @@ drop-stamped n mark (c ∷ s) v b =
 
 -- ---- between two searches
 
+-- five slices have room for n, and are as they were beyond that
+pub record Slices (n : ℕ) (v₀ h₀ s₀ a₀ m₀ v h s a m : List ℕ) : Type 0 where
+  pub visited : Kept n v₀ v
+  pub cheap : Kept n h₀ h
+  pub cols : Kept n s₀ s
+  pub places : Kept n a₀ a
+  pub matching : Kept n m₀ m
+
 -- the searches from column c on lead to the rule's verdict, no stamp is larger than c, cheap places are sound, and the rest is as it was
 pub record Going (n : ℕ) (col : Pattern) (c : Col) (visited₀ cheap₀ scol₀ sat₀ row2col₀ visited cheap scol sat row2col : List ℕ)
     : Type 0 where
@@ -64,11 +72,7 @@ pub record Going (n : ℕ) (col : Pattern) (c : Col) (visited₀ cheap₀ scol�
   pub leads : matchFrom n col (n - c) c (take n row2col) ≡ matching n col
   pub stamps : (d : Col) → d < n → getD visited d 0 ≤ c
   pub sound : Cheap n col row2col cheap
-  pub visited-kept : Kept n visited₀ visited
-  pub cheap-kept : Kept n cheap₀ cheap
-  pub cols-kept : Kept n scol₀ scol
-  pub places-kept : Kept n sat₀ sat
-  pub matching-kept : Kept n row2col₀ row2col
+  pub slices : Slices n visited₀ cheap₀ scol₀ sat₀ row2col₀ visited cheap scol sat row2col
 
 -- before the first
 pub going-start : {n : ℕ} {col : Pattern} {visited cheap scol sat row2col : List ℕ} → Inside n col
@@ -82,11 +86,13 @@ going-start {n} {col} {visited} {cheap} {scol} {sat} {row2col} I short F = recor
   leads = let z : n - 0 ≡ n = omega arith in rw (z, F .free) refl;
   stamps = λ d l. omega (arith, F .unvisited d l);
   sound = λ d l k j. absurd (omega (arith, F .unlooked d l));
-  visited-kept = kept-start n visited (F .visited-long);
-  cheap-kept = kept-start n cheap (F .cheap-long);
-  cols-kept = kept-start n scol (F .cols-long);
-  places-kept = kept-start n sat (F .places-long);
-  matching-kept = kept-start n row2col (F .matching-long);
+  slices = record {
+    visited = kept-start n visited (F .visited-long);
+    cheap = kept-start n cheap (F .cheap-long);
+    cols = kept-start n scol (F .cols-long);
+    places = kept-start n sat (F .places-long);
+    matching = kept-start n row2col (F .matching-long);
+  };
 }
 
 -- then the next search can be made, with a stamp of its own
@@ -99,11 +105,11 @@ going-ready G l = record {
   below = l;
   unstamped = λ d k e. omega (arith, G .stamps d k);
   sound = G .sound;
-  matching-long = G .matching-kept .long;
-  stamps-long = G .visited-kept .long;
-  cheap-long = G .cheap-kept .long;
-  cols-long = G .cols-kept .long;
-  places-long = G .places-kept .long;
+  matching-long = G .slices .matching .long;
+  stamps-long = G .slices .visited .long;
+  cheap-long = G .slices .cheap .long;
+  cols-long = G .slices .cols .long;
+  places-long = G .slices .places .long;
 }
 
 -- the search of column c ended: what it leaves of the slices
@@ -146,6 +152,18 @@ failed-path (found p e) h = let z : _≡_ {A = ℕ} 0 1 = cc in absurd (omega ar
 same-ending : {n : ℕ} {col : Pattern} (m : List Col) (c : Col) → Inside n col → search n col (take n m) n [] c ≡ search n col m n [] c
 same-ending {n} {col} m c I = sym (search-agree n col m (take n m) I (agree-take n m) n [] c)
 
+-- a search keeps the slices, whatever it answers
+pub made-slices : {n : ℕ} {col : Pattern} {c : Col} {v₀ h₀ s₀ a₀ m₀ v h s a m v′ h′ s′ a′ m′ : List ℕ} {answer : Bool}
+    → Going n col c v₀ h₀ s₀ a₀ m₀ v h s a m → c < n → Made n col c v h s a m v′ h′ s′ a′ m′ answer
+    → Slices n v₀ h₀ s₀ a₀ m₀ v′ h′ s′ a′ m′
+made-slices G l M = record {
+  visited = kept-then (G .slices .visited) (M .visited-length) (visited-beyond l (M .ends));
+  cheap = kept-then (G .slices .cheap) (M .cheap-length) (M .ends .cheap-beyond);
+  cols = kept-then (G .slices .cols) (M .cols-length) (M .cols-beyond);
+  places = kept-then (G .slices .places) (M .places-length) (M .places-beyond);
+  matching = kept-then (G .slices .matching) (M .matching-length) (matching-beyond (G .inside) l (M .ends));
+}
+
 -- where it found a path, the searches go on from the next column
 pub leads-on : {n : ℕ} {col : Pattern} {c : Col} (m : List Col) {m′ : List Col} → Inside n col → c < n
     → matchFrom n col (n - c) c (take n m) ≡ matching n col → true ≡ isFound (search n col m n [] c .ending)
@@ -172,11 +190,7 @@ going-more {n} {col} {c} {v = v} {m = m} {v′ = v′} G l M = record {
   stamps = λ d k. rw (M .ends .visits) (stamped-le (c + 1) (c + 1) (search n col m n [] c .visited) v d (omega arith) (omega
       (arith, G .stamps d k)));
   sound = M .ends .sound;
-  visited-kept = kept-then (G .visited-kept) (M .visited-length) (visited-beyond l (M .ends));
-  cheap-kept = kept-then (G .cheap-kept) (M .cheap-length) (M .ends .cheap-beyond);
-  cols-kept = kept-then (G .cols-kept) (M .cols-length) (M .cols-beyond);
-  places-kept = kept-then (G .places-kept) (M .places-length) (M .places-beyond);
-  matching-kept = kept-then (G .matching-kept) (M .matching-length) (matching-beyond (G .inside) l (M .ends));
+  slices = made-slices G l M;
 }
 
 -- where it failed, that is the rule's verdict, and the stamp tells the columns it visited
@@ -194,8 +208,9 @@ going-failed {n} {col} {c} {v = v} {m = m} {v′ = v′} {m′ = m′} G l M = r
         sym (G .leads) ∙ ap (λ (x : ℕ). matchFrom n col x c (take n m)) k ∙ match-failed n col (n - (c + 1)) c (take n m) f
         ∙ ap (λ s. refused c (s .visited)) (same-ending m c (G .inside))
 
-    is : (d : Col) → d < n → (getD (stamped (c + 1) (search n col m n [] c .visited) v) d 0 ≡ c + 1) ↔ Mem d (search n col m n [] c .visited)
-    is d k = stamped-is n (c + 1) (search n col m n [] c .visited) v d (G .visited-kept .long)
+    is : (d : Col) → d < n → (getD (stamped (c + 1) (search n col m n [] c .visited) v) d 0 ≡ c + 1) ↔ Mem d (search n col m n [] c
+    .visited)
+    is d k = stamped-is n (c + 1) (search n col m n [] c .visited) v d (G .slices .visited .long)
         (λ x j e. omega (arith, G .stamps x j)) (visited-below n col m c l) k
 
     stamp : (d : Col) → d < n → eqb (getD v′ d 0) (c + 1) ≡ elem d (search n col m n [] c .visited)
@@ -221,8 +236,15 @@ going-end {n} {col} {c} {v = v} {m = m} G l =
 pub searches-start : {size : ℕ} {starts rows visited cheap scol sat row2col : List ℕ} → Shaped size starts rows → RowsBelow rows size
     → Fresh size visited cheap scol sat row2col
     → Going size (columnOr starts rows none []) 0 visited cheap scol sat row2col visited cheap scol sat row2col
-searches-start S low F = going-start (inside-or none [] S low (λ k l. absurd (omega arith)) (inr refl)) (short-or none [] S (omega arith)) F
+searches-start S low F = going-start (inside-or none [] S low (λ k l. absurd (omega arith)) (inr refl)) (short-or none [] S (omega
+    arith)) F
 
 pub ends-unedited : {size : ℕ} {starts rows : List ℕ} (visited row2col : List ℕ) (r : ℕ) → Shaped size starts rows
-    → EndsAt size visited row2col r (matching size (columnOr starts rows none [])) → EndsAt size visited row2col r (matching size (column starts rows))
+    → EndsAt size visited row2col r (matching size (columnOr starts rows none [])) → EndsAt size visited row2col r (matching size
+    (column starts rows))
 ends-unedited {size} visited row2col r S E = subst (λ col. EndsAt size visited row2col r (matching size col)) (unedited [] S refl) E
+
+-- what stands beyond n of the matching, and then of workspace and stack, is as it was
+pub slices-beyond : {n : ℕ} {v₀ h₀ s₀ a₀ m₀ v h s a m : List ℕ} → Slices n v₀ h₀ s₀ a₀ m₀ v h s a m
+    → SameBeyond n m₀ m × (SameBeyond n v₀ v × SameBeyond n h₀ h × SameBeyond n s₀ s × SameBeyond n a₀ a)
+slices-beyond K = (K .matching .beyond, (K .visited .beyond, K .cheap .beyond, K .cols .beyond, K .places .beyond))

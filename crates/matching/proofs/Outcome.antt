@@ -6,8 +6,8 @@ use mathlib.Core.List.{List, [], _∷_, _++_}
 use mathlib.Core.Logic.{_⊎_, inl, inr}
 use native.Mathlib.Omega.{arith}
 use lib.Dec.{eqb, ltb}
-use lib.ListN.{length, getD, take, drop, replicate}
-use lib.Seq.{length-take-le}
+use lib.ListN.{length, getD, take, drop, replicate, length-replicate}
+use lib.Seq.{drop-at, take-at}
 use Rattle.graph.specs.Counting.{bit}
 use Rattle.graph.specs.Lists.{Mem, elem, table}
 use Rattle.graph.specs.Matchings.{Row, Col, Pattern, Inside, Perfect, partner}
@@ -17,19 +17,21 @@ use Rattle.graph.proofs.Matchings.{perfect-agree}
 use Rattle.sparse.specs.Buffers.{zeroed, filled}
 use Rattle.sparse.specs.Limits.{none, maxSize}
 use Rattle.sparse.specs.Matrix.{column, Shaped, RowsBelow}
-use Rattle.sparse.specs.Refusals.{firstRefusal, early, oneShort, repeatedRow}
+use Rattle.sparse.specs.Parts.{ZeroBelow}
+use Rattle.sparse.specs.Refusals.{firstRefusal, early, oneShort, Roomy, repeatedRow}
 use Rattle.sparse.specs.declared.Checked.{Checked}
 use Rattle.sparse.specs.declared.Checked.the-variants as checked
 use Rattle.sparse.specs.declared.Refusal.{Refusal}
-use Rattle.sparse.proofs.Buffers.{filled-at, front-filled}
+use Rattle.sparse.proofs.Buffers.{filled-at, front-filled, zero-below}
 use Rattle.sparse.proofs.Early.{Early, early-passed, early-passes, early-number, repeats-number}
 use Rattle.sparse.proofs.Matrix.{inside, column-once}
 use Rattle.sparse.proofs.Passing.{repeats-pass}
 use Rattle.sparse.proofs.Room.{short-more, short-last}
 use Rattle.matching.specs.Matching.{Verdict, accepted, refused, matching, Matchable, Deficient, Decides}
-use Rattle.matching.specs.Outcome.{Lent, lent, matchingNeed, buffers, cleared, Outcome, ended, numberOf, placeOf, unmatchable, marksOf}
+use Rattle.matching.specs.Outcome.{Lent, lent, matchingNeed, buffers, cleared, Outcome, ended, numberOf, placeOf, unmatchable}
+use Rattle.matching.specs.Outcome.{marksOf}
 use Rattle.matching.specs.Outcome.{handedOut, outcome, Given, HallMarks, Means}
-use Rattle.matching.specs.Parts.{EndsAt, SameBeyond}
+use Rattle.matching.specs.Parts.{Fresh, EndsAt, SameBeyond}
 use Rattle.matching.specs.declared.diagonal.MatchingAnswer.{MatchingAnswer}
 use Rattle.matching.specs.declared.diagonal.MatchingAnswer.the-variants.{Accepted, Refused}
 use Rattle.matching.proofs.Matching.{matching-decides}
@@ -85,35 +87,58 @@ pub cleared-same : (size : ℕ) (l k : Lent) (a b : List ℕ) → SameBeyond siz
     → SameBeyond size (l .cheap) (k .cheap) → SameBeyond size (l .scol) (k .scol) → SameBeyond size (l .sat) (k .sat)
     → cleared size k a b ≡ cleared size l a b
 cleared-same size l k a b e f g h =
-    rw (zeroed-same size (l .visited) (k .visited) e, zeroed-same size (l .cheap) (k .cheap) f, zeroed-same size (l .scol) (k .scol) g,
-    zeroed-same size (l .sat) (k .sat) h)
+    rw (
+      zeroed-same size (l .visited) (k .visited) e,
+      zeroed-same size (l .cheap) (k .cheap) f,
+      zeroed-same size (l .scol) (k .scol) g,
+      zeroed-same size (l .sat) (k .sat) h,
+    )
 
 -- cleared one after the other, workspace and stack are cleared
 pub cleared-all : (size need : ℕ) (v c s t v′ c′ s′ t′ a b : List ℕ) → need ≡ matchingNeed size → v′ ≡ zeroed need v → c′ ≡ zeroed need c
     → s′ ≡ zeroed size s → t′ ≡ zeroed size t → lent v′ c′ s′ t′ a b ≡ cleared size (lent v c s t a b) a b
 cleared-all size need v c s t v′ c′ s′ t′ a b e f g h i = rw (f, g, h, i, e)
 
+-- a slice filled, or cleared, below n is as it was beyond
+pub filled-beyond : (n v : ℕ) (xs : List ℕ) {ys : List ℕ} → ys ≡ replicate n v ++ drop n xs → SameBeyond n xs ys
+filled-beyond n v xs e = ap (drop n) e ∙ drop-at (replicate n v) (drop n xs) n (length-replicate {A = ℕ} n v)
+
+-- stamps that are zero, cheap places cleared and rows freed are fresh
+pub fresh : (size : ℕ) (l : Lent) {cheap row2col : List ℕ} → Roomy (buffers size l) → ZeroBelow size (l .visited)
+    → cheap ≡ zeroed size (l .cheap) → row2col ≡ replicate size none ++ drop size (l .row2col) → length cheap ≡ length (l .cheap)
+    → length row2col ≡ length (l .row2col) → Fresh size (l .visited) cheap (l .scol) (l .sat) row2col
+fresh size l {cheap} {row2col} R z e f k j = record {
+  unvisited = z;
+  unlooked = rw e (zero-below size size (l .cheap) (omega arith));
+  free = ap (take size) f ∙ take-at (replicate size none) (drop size (l .row2col)) size (length-replicate {A = ℕ} size none);
+  visited-long = R .0;
+  cheap-long = omega (arith, R .1 .0);
+  cols-long = R .1 .1 .0;
+  places-long = R .1 .1 .1 .0;
+  matching-long = omega (arith, R .1 .1 .1 .1 .0);
+}
+
 -- ---- the outputs
 
 -- accepted: the slice is the one lent, filled with the matching
-pub hand-accepted : (size end : ℕ) (visited row2col hall : List ℕ) (l : Lent) (v : Verdict) → size ≤ length row2col → size ≤ end
-    → EndsAt size visited row2col end v → SameBeyond size (l .row2col) row2col → hall ≡ zeroed size (l .hall)
-    → ended Accepted (cleared size l row2col hall) ≡ handedOut size l v
-hand-accepted size end visited row2col hall l (accepted m) long e E same h =
-    rw (h, front-filled size m (l .row2col) row2col long (E .1) same)
-hand-accepted size end visited row2col hall l (refused c seen) long e E same h = absurd (omega (arith, E .0, E .1))
+pub hand-accepted : (size end : ℕ) (visited row2col hall hall′ : List ℕ) (l : Lent) (v : Verdict) → size ≤ length row2col → size ≤ end
+    → EndsAt size visited row2col end v → SameBeyond size (l .row2col) row2col → hall ≡ l .hall → hall′ ≡ zeroed size hall
+    → ended Accepted (cleared size l row2col hall′) ≡ handedOut size l v
+hand-accepted size end visited row2col hall hall′ l (accepted m) long e E same k h =
+    rw (h, k, front-filled size m (l .row2col) row2col long (E .1) same)
+hand-accepted size end visited row2col hall hall′ l (refused c seen) long e E same k h = absurd (omega (arith, E .0, E .1))
 
 -- refused: the matching is zero, and the stamps tell the marks
-pub hand-refused : (size end : ℕ) (visited row2col row2col′ hall : List ℕ) (l : Lent) (v : Verdict) → end < size
+pub hand-refused : (size end : ℕ) (visited row2col row2col′ hall hall′ : List ℕ) (l : Lent) (v : Verdict) → end < size
     → EndsAt size visited row2col end v → SameBeyond size (l .row2col) row2col → row2col′ ≡ zeroed size row2col
-    → hall ≡ filled (table (λ c. bit (eqb (getD visited c 0) (end + 1))) size) (l .hall)
-    → ended (unmatchable end) (cleared size l row2col′ hall) ≡ handedOut size l v
+    → hall ≡ l .hall → hall′ ≡ filled (table (λ c. bit (eqb (getD visited c 0) (end + 1))) size) hall
+    → ended (unmatchable end) (cleared size l row2col′ hall′) ≡ handedOut size l v
 unfolding marksOf
-hand-refused size end visited row2col row2col′ hall l (accepted m) e E same g h = absurd (omega (arith, E .0))
-hand-refused size end visited row2col row2col′ hall l (refused c seen) e E same g h =
+hand-refused size end visited row2col row2col′ hall hall′ l (accepted m) e E same g k h = absurd (omega (arith, E .0))
+hand-refused size end visited row2col row2col′ hall hall′ l (refused c seen) e E same g k h =
     let marks : table (λ d. bit (eqb (getD visited d 0) (end + 1))) size ≡ table (λ d. bit (elem d seen)) size =
-        table-ext _ _ size (λ d k. ap bit (ap (λ (x : ℕ). eqb (getD visited d 0) (x + 1)) (E .0) ∙ E .2 d k)) in
-    rw (h, marks, g, zeroed-same size (l .row2col) row2col same, E .0)
+    table-ext _ _ size (λ d j. ap bit (ap (λ (x : ℕ). eqb (getD visited d 0) (x + 1)) (E .0) ∙ E .2 d j)) in
+    rw (h, k, marks, g, zeroed-same size (l .row2col) row2col same, E .0)
 
 -- ---- the meaning
 

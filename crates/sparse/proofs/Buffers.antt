@@ -65,7 +65,8 @@ table-suc f zero (x ∷ xs) l = refl
 table-suc f (suc n) (x ∷ xs) l = ap (λ (t : List ℕ). f 0 ∷ t) (table-suc (λ k. f (suc k)) n xs (omega arith))
 
 -- one number more
-pub table-more : (f : ℕ → ℕ) (n : ℕ) (xs : List ℕ) → n < length xs → set (table f n ++ drop n xs) n (f n) ≡ table f (n + 1) ++ drop (n + 1) xs
+pub table-more : (f : ℕ → ℕ) (n : ℕ) (xs : List ℕ) → n < length xs → set (table f n ++ drop n xs) n (f n) ≡ table f (n + 1) ++ drop (n
+    + 1) xs
 table-more f n xs l = let e : n + 1 ≡ suc n = omega arith in rw e (table-suc f n xs l)
 
 -- and all of them

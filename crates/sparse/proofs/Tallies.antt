@@ -73,7 +73,8 @@ pub count-more : {size : ℕ} {starts rows : List ℕ} → Shaped size starts ro
 count-more {size = size} {starts = starts} {rows = rows} s c a t l old new = record {
   few = omega (arith, old .few, new .few, up);
   none = λ e. none-scanned s c hi l
-      (record { from = up; to = omega arith; apart = new .apart (omega arith); met = λ h. absurd (omega arith) }) (old .none (omega arith));
+      (record { from = up; to = omega arith; apart = new .apart (omega arith); met = λ h. absurd (omega arith) }) (old .none (omega
+      arith));
   met = λ h. go h (decLt 0 a);
 }
   where

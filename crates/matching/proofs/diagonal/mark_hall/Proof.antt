@@ -1,3 +1,4 @@
+-- `mark_hall` meets its contract. The invariant: the first c columns are marked or not, the rest is as it was.
 use Rattle.matching.proofs.Marking.{Marking, marking-start, marking-more, marking-end}
 use Rattle.graph.specs.Lists.{table}
 use Rattle.graph.specs.Counting.{bit}
@@ -22,19 +23,15 @@ Inv-loop size visited stamp hall₀ c₀ hall c = Marking size stamp visited hal
 abbrev μ-loop : tie.MeasureT-loop
 μ-loop size visited stamp hall₀ c₀ hall c = size - c
 
--- src/diagonal.rt:125:5
 loop-holds : tie.Need-loop-holds Inv-loop μ-loop
 loop-holds c = marking-start _ _ _ _
 
--- src/diagonal.rt:127:39
 by-column-requires : tie.Need-by-column-requires Inv-loop μ-loop
 by-column-requires c κs = search needs
 
--- src/diagonal.rt:127:34
 flag-requires : tie.Need-flag-requires Inv-loop μ-loop
 flag-requires c κs = search needs
 
--- src/diagonal.rt:127:9
 put-by-column-requires : tie.Need-put-by-column-requires Inv-loop μ-loop
 put-by-column-requires c κs =
     let at-in-loop = c .before .before .before in
@@ -42,15 +39,12 @@ put-by-column-requires c κs =
     let at-start = at-loop .before .before .before in
     omega (arith, at-loop .loop .inv .same, at-start .pre .1, at-in-loop .loop-test .taken)
 
--- src/diagonal.rt:128:9
 add-c : tie.Need-add-c Inv-loop μ-loop
 add-c c = search needs
 
--- src/diagonal.rt:125:5
 loop-less : tie.Need-loop-less Inv-loop μ-loop
 loop-less c = search needs
 
--- src/diagonal.rt:125:5
 loop-again : tie.Need-loop-again Inv-loop μ-loop
 loop-again c =
     let at-after-put-by-column = c .before .before in
@@ -59,15 +53,14 @@ loop-again c =
     let at-in-loop = at-after-by-column .before .before in
     let at-loop = at-in-loop .before in
     let at-start = at-loop .before .before .before in
-    marking-more (at-start .pre .1) (at-loop .loop .inv) (at-in-loop .loop-test .taken) (at-after-by-column .by-column .ensures) (at-after-flag .flag .ensures) (at-after-put-by-column .put-by-column .ensures)
+    marking-more (at-start .pre .1) (at-loop .loop .inv) (at-in-loop .loop-test .taken) (at-after-by-column .by-column .ensures)
+    (at-after-flag .flag .ensures) (at-after-put-by-column .put-by-column .ensures)
 
--- src/diagonal.rt:120:1
 same-length : tie.Need-same-length Inv-loop μ-loop
 same-length c =
     let at-loop = c .before in
     at-loop .loop .inv .same
 
--- src/diagonal.rt:120:1
 returns : tie.Need-returns Inv-loop μ-loop
 returns c =
     let at-loop = c .before in
