@@ -208,8 +208,8 @@ going-failed {n} {col} {c} {v = v} {m = m} {v′ = v′} {m′ = m′} G l M = r
         sym (G .leads) ∙ ap (λ (x : ℕ). matchFrom n col x c (take n m)) k ∙ match-failed n col (n - (c + 1)) c (take n m) f
         ∙ ap (λ s. refused c (s .visited)) (same-ending m c (G .inside))
 
-    is : (d : Col) → d < n → (getD (stamped (c + 1) (search n col m n [] c .visited) v) d 0 ≡ c + 1) ↔ Mem d (search n col m n [] c
-    .visited)
+    is : (d : Col) → d < n
+        → (getD (stamped (c + 1) (search n col m n [] c .visited) v) d 0 ≡ c + 1) ↔ Mem d (search n col m n [] c .visited)
     is d k = stamped-is n (c + 1) (search n col m n [] c .visited) v d (G .slices .visited .long)
         (λ x j e. omega (arith, G .stamps x j)) (visited-below n col m c l) k
 

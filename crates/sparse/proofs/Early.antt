@@ -1,17 +1,30 @@
--- What 1, 2, 5 and 3 let through, and that they let it through.
+-- That 5 comes before 3; what 1, 2, 5 and 3 let through, and that they let it through.
 use Prim.Native.Nat.{ℕ, _≤_}
 use mathlib.Core.Path.{_≡_, sym, _∙_}
 use mathlib.Core.Logic.{⊎-elim}
 use mathlib.Core.List.{List, [], _∷_}
+use mathlib.Core.Bool.{true}
 use Rattle.sparse.specs.Matrix.{Shaped, RowsBelow}
+<<<<<<< HEAD
 use native.Mathlib.Omega.{arith}
 use Rattle.sparse.specs.Refusals.{firstRefusal, Buffer, noRoom, Roomy, early, tooLarge, misshapen, rowOutside, repeatedRow}
 use Rattle.sparse.specs.declared.Checked.the-variants.{Passed, Refused}
 use Rattle.sparse.specs.declared.Refusal.{Refusal}
 use Rattle.sparse.proofs.Refusals.{first-passed, first-last, head-passed, tail-passed, which, number-if, number-at}
+=======
+use Rattle.sparse.specs.Refusals.{refusal, refusedIf, firstRefusal, tooLarge, misshapen, Buffer, oneShort, noRoom, Roomy, early}
+use Rattle.sparse.specs.declared.Checked.the-variants.{Passed}
+use Rattle.sparse.proofs.Refusals.{first-passed, first-last, head-passed, tail-passed}
+>>>>>>> ded57e62bd1d99ef5bab39efb58f937fd4aee003
 use Rattle.sparse.proofs.Room.{room-head, room-tail}
 use Rattle.sparse.proofs.Matrix.{shaped, rows-below}
 use Rattle.sparse.proofs.Passing.{size-passes, shape-passes, room-none, room-more, rows-pass}
+
+-- where 1 and 2 pass and a buffer is short the refusal is 5, whatever the rows are: so 5 comes before 3
+pub room-first : (size : ℕ) (starts rows : List ℕ) (buffers : List Buffer) → tooLarge size rows ≡ Passed
+    → misshapen size starts rows ≡ Passed → oneShort buffers ≡ true → firstRefusal (early size starts rows buffers) ≡ refusal 5 0
+unfolding firstRefusal refusedIf noRoom early
+room-first size starts rows buffers p q e = rw (p, q, e)
 
 -- buffers that pass are as long as their needs
 pub roomy : (bs : List Buffer) → noRoom bs ≡ Passed → Roomy bs
@@ -29,6 +42,7 @@ pub record Early (size : ℕ) (starts rows : List ℕ) (buffers : List Buffer) :
   pub below : RowsBelow rows size
   pub room : Roomy buffers
 
+-- what 1, 2, 5 and 3 let through is such
 pub early-passed : (size : ℕ) (starts rows : List ℕ) (buffers : List Buffer)
     → firstRefusal (early size starts rows buffers) ≡ Passed → Early size starts rows buffers
 unfolding early
@@ -41,6 +55,7 @@ early-passed size starts rows buffers e =
       room = roomy buffers (head-passed _ _ room);
     }
 
+-- and whatever is such they let through
 pub early-passes : {size : ℕ} {starts rows : List ℕ} (buffers : List Buffer) → Shaped size starts rows → RowsBelow rows size
     → Roomy buffers → firstRefusal (early size starts rows buffers) ≡ Passed
 unfolding early
