@@ -41,3 +41,8 @@ pub fn order_simple(size: usize, columns: &Columns) -> Permutation {
     let perm = ordering::order_simple(size, |c| columns.col(c));
     Permutation { new2orig: perm.new2orig, orig2new: perm.orig2new }
 }
+
+/// The Rust's `find_diag_matching`: the column of each row, or none.
+pub fn find_diag_matching(size: usize, columns: &Columns) -> Option<Vec<usize>> {
+    ordering::find_diag_matching(size, |c| columns.col(c))
+}

@@ -9,12 +9,13 @@ fn main() {
     println!("Each entry of the library, its checks of input and all its clearing included, and the same function of the");
     println!("unchanged Rust are called in turn by one program, a release build, on the same {PATTERNS} random patterns of");
     println!("each kind (seed {SEED}). Times are microseconds a call, the median and the least of {BATCHES} interleaved");
-    println!("batches of {CALLS} calls; a ratio is the library's time over the Rust's, and the last column is the");
-    println!("workspace alone, zeroed once.\n");
+    println!("batches of {CALLS} calls, or, where the input says so, of fewer calls on as many patterns. A ratio is the");
+    println!("library's time over the Rust's. The last column is the clearing alone: what the library leaves zero behind it,");
+    println!("zeroed once by the driver, in stores as wide as its compiler makes them.\n");
     println!("The Rust trusts its input and allocates its slices; the library tests every start and every row before it");
     println!("begins, and is lent all that it writes to.");
     for entry in ENTRIES {
-        println!("\n## {}\n", entry.name);
+        println!("\n## {}\n\n{}\n", entry.name, entry.bench_note);
         println!("| Input | Library, median | Rust, median | Ratio | Library, least | Rust, least | Ratio | Clearing, median (least) |");
         println!("|---|---|---|---|---|---|---|---|");
         (entry.bench)(SEED).iter().for_each(print_row);

@@ -4,8 +4,10 @@ use dechvorim::driver::ENTRIES;
 const SEED: u64 = 19_580_101;
 
 const HEADER: &str = "# Made by rust/src/bin/record.rs. Each line is a case: its kind, the pattern, then the answer and its place \
-    and, where accepted, the lists that the unchanged Rust gave. A refused case has no lists: the Rust checks nothing and panics on an \
-    empty column, so these answers and places are a reading of the table of refusals. Only the numbers count.";
+    and, where accepted, the lists that the unchanged Rust gave. The Rust checks nothing, panics on an empty column, and of a matching \
+    that does not exist says only so. Refusals and their places are therefore a reading of the table of refusals; and the column whose \
+    search failed, with the marks of the columns that it visited, is a reading of the matching's rule in the driver's own Rust. \
+    Other refused cases have no lists. Only the numbers count.";
 
 /// What the replay has room for.
 const MAX_BYTES: usize = 120_000;

@@ -12,9 +12,15 @@ use std::fmt;
 /// One call of an entry beside its judge: the number answered, or what differs.
 pub type Check = fn(&Input, Room, &mut Xorshift) -> Result<u32, String>;
 
+/// A kind of valid pattern that an entry asks for, of any size.
+pub struct Kind {
+    pub name: &'static str,
+    pub make: fn(u32, &mut Xorshift) -> Input,
+}
+
 /// A family of inputs that were compared.
 pub struct Family {
-    pub name: &'static str,
+    pub name: String,
     pub cases: u64,
     /// How often each number was answered.
     pub answers: BTreeMap<u32, u64>,
@@ -29,7 +35,7 @@ impl fmt::Display for Family {
 
 /// An input on which an entry and its judge differ, made as small as could be.
 pub struct Difference {
-    pub family: &'static str,
+    pub family: String,
     pub case: u64,
     pub input: Input,
     pub what: String,
@@ -54,8 +60,8 @@ struct Run {
 type Done = Result<(), Difference>;
 
 impl Run {
-    fn begin(&mut self, name: &'static str) {
-        self.families.push(Family { name, cases: 0, answers: BTreeMap::new() });
+    fn begin(&mut self, name: &str) {
+        self.families.push(Family { name: name.to_string(), cases: 0, answers: BTreeMap::new() });
     }
 
     // Each case has a seed of its own, so that it can be run again while it is made smaller.
@@ -70,8 +76,17 @@ impl Run {
             }
             Err(what) => {
                 let (input, what) = smallest(self.check, input, what, room, seed);
-                Err(Difference { family: family.name, case: family.cases, input, what })
+                Err(Difference { family: family.name.clone(), case: family.cases, input, what })
             }
+        }
+    }
+
+    // Mostly enough, so that most valid inputs are answered.
+    fn room(&mut self) -> Room {
+        if self.random.one_in(8) {
+            Room::Any
+        } else {
+            Room::Enough
         }
     }
 
@@ -82,8 +97,8 @@ impl Run {
     }
 }
 
-/// Compares an entry that lends so many buffers, over all families.
-pub fn compare(check: Check, buffers: u32, seed: u64) -> Result<Vec<Family>, Difference> {
+/// Compares an entry that lends so many buffers, over all families, then over the kinds of its own.
+pub fn compare(check: Check, buffers: u32, kinds: &[Kind], seed: u64) -> Result<Vec<Family>, Difference> {
     let mut run = Run { check, buffers, random: Xorshift::new(seed), families: vec![] };
     small(&mut run)?;
     random_patterns(&mut run)?;
@@ -92,6 +107,7 @@ pub fn compare(check: Check, buffers: u32, seed: u64) -> Result<Vec<Family>, Dif
     many_faults(&mut run)?;
     full_size(&mut run)?;
     over_the_limits(&mut run)?;
+    of_kinds(&mut run, kinds)?;
     Ok(run.families)
 }
 
@@ -111,7 +127,7 @@ fn random_patterns(run: &mut Run) -> Done {
         let size = run.random.below(61);
         let shape = run.random.pick(&SHAPES);
         let empties = run.random.one_in(4);
-        let room = if run.random.one_in(8) { Room::Any } else { Room::Enough };
+        let room = run.room();
         let input = random(size, shape, empties, &mut run.random);
         run.case(&input, room)?;
     }
@@ -125,9 +141,9 @@ enum Fault {
     Short(u32),
 }
 
-// All faults but an entry too many, which takes a million: the last family has it.
+// All faults but an entry too many, which takes a million: the family over the limits has it.
 fn faults(buffers: u32) -> Vec<Fault> {
-    DAMAGES.into_iter().map(Fault::Damage).chain((0..buffers).map(Fault::Short)).collect()
+    DAMAGES.iter().copied().map(Fault::Damage).chain((0..buffers).map(Fault::Short)).collect()
 }
 
 // The input with these faults, and the room that is left for it.
@@ -251,6 +267,21 @@ fn over_the_limits(run: &mut Run) -> Done {
     for fault in [Damage::RowLargest, Damage::LastLow, Damage::StartsNone] {
         fault.apply(&mut longer, &mut run.random);
         run.both(&longer)?;
+    }
+    Ok(())
+}
+
+fn of_kinds(run: &mut Run, kinds: &[Kind]) -> Done {
+    for (sizes, least, most, cases) in [("size 0 to 60", 0, 60, 10_000), ("size 4096", MAX_SIZE, MAX_SIZE, 6)] {
+        for kind in kinds {
+            run.begin(&format!("{}, {sizes}", kind.name));
+            for _ in 0..cases {
+                let size = run.random.between(least, most);
+                let room = run.room();
+                let input = (kind.make)(size, &mut run.random);
+                run.case(&input, room)?;
+            }
+        }
     }
     Ok(())
 }

@@ -4,9 +4,21 @@ use super::random::Xorshift;
 use super::table::MAX_SIZE;
 use crate::OriginalRow;
 
-/// The forms, in an order in which they can follow one another: those that need a well-formed pattern come first.
-#[derive(Clone, Copy, Debug, PartialEq, Eq, PartialOrd, Ord)]
-pub enum Damage {
+// Says the forms once, for the enum and for the list of them all.
+macro_rules! damages {
+    ($($form:ident,)*) => {
+        /// The forms, in an order in which they can follow one another: those that need a well-formed pattern come first.
+        #[derive(Clone, Copy, Debug, PartialEq, Eq, PartialOrd, Ord)]
+        pub enum Damage {
+            $($form,)*
+        }
+
+        /// All of them, in that order.
+        pub const DAMAGES: &[Damage] = &[$($form,)*];
+    };
+}
+
+damages! {
     ColumnEmptied,
     RowTwice,
     RowIsSize,
@@ -27,26 +39,6 @@ pub enum Damage {
 }
 
 use Damage::*;
-
-pub const DAMAGES: [Damage; 17] = [
-    ColumnEmptied,
-    RowTwice,
-    RowIsSize,
-    RowAboveSize,
-    RowLargest,
-    RowMissing,
-    RowTooMany,
-    StartFalls,
-    FirstNotZero,
-    LastLow,
-    LastHigh,
-    StartsShort,
-    StartsNone,
-    StartsLong,
-    SizeOther,
-    SizeOver,
-    SizeLargest,
-];
 
 impl Damage {
     /// Damages the input so, if it has what is to be damaged.

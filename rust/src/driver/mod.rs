@@ -6,11 +6,14 @@ pub mod buffer;
 pub mod compare;
 pub mod damage;
 pub mod input;
+pub mod matchable;
+pub mod matching;
 pub mod order;
 pub mod original;
 pub mod patterns;
 pub mod random;
 pub mod samples;
+pub mod searches;
 pub mod smallest;
 pub mod table;
 
@@ -23,8 +26,10 @@ pub struct Entry {
     pub compare: fn(u64) -> Result<Vec<compare::Family>, compare::Difference>,
     /// Its recorded lines, from this seed, without the kind and the name.
     pub record: fn(u64) -> Vec<String>,
+    /// What the report says above its times.
+    pub bench_note: &'static str,
     /// Its times beside the Rust's, from this seed.
     pub bench: fn(u64) -> Vec<bench::Timing>,
 }
 
-pub const ENTRIES: [Entry; 1] = [order::ENTRY];
+pub const ENTRIES: [Entry; 2] = [order::ENTRY, matching::ENTRY];

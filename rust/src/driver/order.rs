@@ -13,8 +13,9 @@ use std::hint::black_box;
 pub const ENTRY: Entry = Entry {
     name: "order",
     kind: 1,
-    compare: |seed| compare::compare(check, BUFFERS, seed),
+    compare: |seed| compare::compare(check, BUFFERS, &[], seed),
     record: |seed| samples::patterns(seed).iter().filter_map(record).collect(),
+    bench_note: "Cleared are the four workspace slices.",
     bench,
 };
 
@@ -76,12 +77,7 @@ impl Lent {
 // The table's lines that concern the order, in its order.
 fn refusal(input: &Input, lengths: &[usize]) -> Option<Refusal> {
     let buffers: Vec<(usize, usize)> = lengths.iter().map(|&length| (length, input.size as usize)).collect();
-    given(1, table::too_large(input))
-        .or_else(|| given(2, table::misshapen(input)))
-        .or_else(|| given(5, table::short(&buffers)))
-        .or_else(|| given(3, table::row_outside(input)))
-        .or_else(|| given(4, table::row_twice(input)))
-        .or_else(|| given(8, table::empty_column(input)))
+    table::common(input, &buffers).or_else(|| given(8, table::empty_column(input)))
 }
 
 /// What the judges say: the table's refusal, or the Rust's order.

@@ -1,4 +1,5 @@
 //! The inputs whose answers are stored.
+use super::compare::Kind;
 use super::damage::Damage;
 use super::input::Input;
 use super::patterns::{every, random, with_lengths, SHAPES};
@@ -17,19 +18,34 @@ fn documented() -> Vec<Input> {
     columns.map(|columns| Input::from_columns(&columns.iter().map(|rows| rows.to_vec()).collect::<Vec<_>>())).to_vec()
 }
 
-/// Some three hundred inputs, from the small to the large, then damaged ones.
-pub fn patterns(seed: u64) -> Vec<Input> {
-    let mut rng = Xorshift::new(seed);
+// Those of the document, all up to size 2, and some of size 3.
+fn small() -> Vec<Input> {
     let mut inputs = documented();
     inputs.extend((0..=2).flat_map(every));
     // A step that has no factor in common with the number of lists, so that every column varies.
     inputs.extend(every(3).skip(5).step_by(71));
+    inputs
+}
+
+/// Some three hundred inputs, from the small to the large, then damaged ones.
+pub fn patterns(seed: u64) -> Vec<Input> {
+    let mut rng = Xorshift::new(seed);
+    let mut inputs = small();
     inputs.extend((0..100).map(|_| {
         let size = rng.between(3, 30);
         with_lengths(size, &mut rng, |rng, _| rng.between(1, size.min(9)))
     }));
     inputs.extend((0..44).map(|i| random(rng.between(3, 12), SHAPES[i % 4], i % 3 == 0, &mut rng)));
     inputs.extend((0..64).map(|i| damaged(FAULTS[i % FAULTS.len()], &mut rng)));
+    inputs
+}
+
+/// Some two hundred and fifty inputs: the small ones, some of each kind, then damaged ones.
+pub fn of_kinds(kinds: &[Kind], seed: u64) -> Vec<Input> {
+    let mut rng = Xorshift::new(seed);
+    let mut inputs = small();
+    inputs.extend((0..110).map(|i| (kinds[i % kinds.len()].make)(rng.between(3, 20), &mut rng)));
+    inputs.extend((0..48).map(|i| damaged(FAULTS[i % FAULTS.len()], &mut rng)));
     inputs
 }
 

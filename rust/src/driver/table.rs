@@ -53,6 +53,15 @@ pub fn row_twice(input: &Input) -> Option<u32> {
     })
 }
 
+/// The lines that concern every entry, in the table's order. Each buffer is given by its length and its need.
+pub fn common(input: &Input, buffers: &[(usize, usize)]) -> Option<Refusal> {
+    given(1, too_large(input))
+        .or_else(|| given(2, misshapen(input)))
+        .or_else(|| given(5, short(buffers)))
+        .or_else(|| given(3, row_outside(input)))
+        .or_else(|| given(4, row_twice(input)))
+}
+
 /// 8: an empty column.
 pub fn empty_column(input: &Input) -> Option<u32> {
     (0..input.size).find(|&c| input.column(c as usize).is_empty())

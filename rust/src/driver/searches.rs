@@ -1,0 +1,84 @@
+//! A plain reading of the matching's rule in the project's scope document, written apart from the library and from the Rust:
+//! recursive, and looking at each list from its beginning. It says what the Rust does not: which search failed, and what it visited.
+use super::input::Input;
+use crate::Column;
+use std::collections::BTreeSet;
+
+/// What the rule gives for a valid pattern.
+pub struct Ruled {
+    /// The column of each row, or the search that failed.
+    pub matching: Result<Vec<Column>, Failed>,
+    /// How many columns the path of each successful search has.
+    pub paths: Vec<usize>,
+}
+
+/// A failed search: the column it started from, and for each column whether it was visited.
+pub struct Failed {
+    pub column: Column,
+    pub visited: Vec<bool>,
+}
+
+struct Searches<'a> {
+    input: &'a Input,
+    row2col: Vec<Option<Column>>,
+    visited: Vec<bool>,
+}
+
+impl Searches<'_> {
+    // The length of the path from this column, each column on it moved to the row it was looking at; or none.
+    fn search(&mut self, c: Column) -> Option<usize> {
+        self.visited[c.0 as usize] = true;
+        let rows = self.input.column(c.0 as usize);
+        if let Some(free) = rows.iter().find(|row| self.row2col[row.0 as usize].is_none()) {
+            self.row2col[free.0 as usize] = Some(c);
+            return Some(1);
+        }
+        for row in rows {
+            let owner = self.row2col[row.0 as usize].expect("no row of the column is free");
+            if self.visited[owner.0 as usize] {
+                continue;
+            }
+            if let Some(rest) = self.search(owner) {
+                self.row2col[row.0 as usize] = Some(c);
+                return Some(1 + rest);
+            }
+        }
+        None
+    }
+}
+
+/// The rule: a search from each column in turn.
+pub fn ruled(input: &Input) -> Ruled {
+    let size = input.size as usize;
+    let mut searches = Searches { input, row2col: vec![None; size], visited: vec![] };
+    let mut paths = vec![];
+    for column in (0..input.size).map(Column) {
+        searches.visited = vec![false; size];
+        match searches.search(column) {
+            Some(path) => paths.push(path),
+            None => return Ruled { matching: Err(Failed { column, visited: searches.visited }), paths },
+        }
+    }
+    // As many searches as rows, each of which took one more row: none is free.
+    let matching = searches.row2col.into_iter().map(|column| column.expect("every row is taken")).collect();
+    Ruled { matching: Ok(matching), paths }
+}
+
+/// In how many rows the chosen columns have entries.
+pub fn rows_together(input: &Input, chosen: &[bool]) -> usize {
+    let columns = (0..input.size as usize).filter(|&c| chosen[c]);
+    columns.flat_map(|c| input.column(c)).collect::<BTreeSet<_>>().len()
+}
+
+/// The largest size for which every choice of rows is tried.
+pub const MOST_TRIED: u32 = 8;
+
+/// Whether there is a perfect matching, by trying: after each column, the sets of rows that the columns so far can have.
+pub fn matchable(input: &Input) -> bool {
+    let mut sets = BTreeSet::from([0_u32]);
+    for c in 0..input.size as usize {
+        let with = |set: u32| input.column(c).iter().map(move |row| (set, 1 << row.0));
+        sets = sets.into_iter().flat_map(with).filter(|(set, row)| set & row == 0).map(|(set, row)| set | row).collect();
+    }
+    !sets.is_empty()
+}
