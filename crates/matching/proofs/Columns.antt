@@ -172,7 +172,7 @@ leads-on {n} {col} {c} m {m′} I l L T E =
     let t = found-path (search n col (take n m) n [] c .ending) (T ∙ ap isFound (ap (λ s. s .ending) (sym (same-ending m c I)))) in
     let k : n - c ≡ suc (n - (c + 1)) = omega arith in
     let g : take n m′ ≡ augment (take n m) c (t .0) (t .1) =
-        ap (take n) E ∙ take-moved n col m c I l ∙ ap (moved (take n m) c) (t .2) in
+    ap (take n) E ∙ take-moved n col m c I l ∙ ap (moved (take n m) c) (t .2) in
     let a : c + 1 ≡ suc c = omega arith in
     ap (matchFrom n col (n - (c + 1)) (c + 1)) g
     ∙ ap (λ (x : ℕ). matchFrom n col (n - (c + 1)) x (augment (take n m) c (t .0) (t .1))) a

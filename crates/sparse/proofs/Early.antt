@@ -5,17 +5,12 @@ use mathlib.Core.Logic.{⊎-elim}
 use mathlib.Core.List.{List, [], _∷_}
 use mathlib.Core.Bool.{true}
 use Rattle.sparse.specs.Matrix.{Shaped, RowsBelow}
-<<<<<<< HEAD
 use native.Mathlib.Omega.{arith}
-use Rattle.sparse.specs.Refusals.{firstRefusal, Buffer, noRoom, Roomy, early, tooLarge, misshapen, rowOutside, repeatedRow}
+use Rattle.sparse.specs.Refusals.{refusal, refusedIf, firstRefusal, Buffer, oneShort, noRoom, Roomy, early}
+use Rattle.sparse.specs.Refusals.{tooLarge, misshapen, rowOutside, repeatedRow}
 use Rattle.sparse.specs.declared.Checked.the-variants.{Passed, Refused}
 use Rattle.sparse.specs.declared.Refusal.{Refusal}
 use Rattle.sparse.proofs.Refusals.{first-passed, first-last, head-passed, tail-passed, which, number-if, number-at}
-=======
-use Rattle.sparse.specs.Refusals.{refusal, refusedIf, firstRefusal, tooLarge, misshapen, Buffer, oneShort, noRoom, Roomy, early}
-use Rattle.sparse.specs.declared.Checked.the-variants.{Passed}
-use Rattle.sparse.proofs.Refusals.{first-passed, first-last, head-passed, tail-passed}
->>>>>>> ded57e62bd1d99ef5bab39efb58f937fd4aee003
 use Rattle.sparse.proofs.Room.{room-head, room-tail}
 use Rattle.sparse.proofs.Matrix.{shaped, rows-below}
 use Rattle.sparse.proofs.Passing.{size-passes, shape-passes, room-none, room-more, rows-pass}

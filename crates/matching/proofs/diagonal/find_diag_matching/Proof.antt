@@ -52,19 +52,27 @@ returns c =
     let at-after-first = c .before in
     let at-after-check-early = at-after-first .before .before in
     let at-after-lacks-room = at-after-check-early .before in
-    let at-start = at-after-lacks-room .before .before .before .before .before .before .before .before .before .before .before .before
+    let at-start = at-after-lacks-room .before .before .before .before .before .before .before .before .before .before .before
+    .before
     .before .before .before in (
       early-outcome ((at-start .args) .size) ((at-start .args) .starts .now) ((at-start .args) .rows .now) (lent ((at-start .args)
-          .visited .now) ((at-start .args) .cheap .now) ((at-start .args) .scol .now) ((at-start .args) .sat .now) ((at-start .args) .row2col
-          .now) ((at-start .args) .hall .now)) _ ((sym (at-after-check-early .check-early .ensures (buffers ((at-start .args) .size) (lent
+          .visited .now) ((at-start .args) .cheap .now) ((at-start .args) .scol .now) ((at-start .args) .sat .now) ((at-start
+          .args) .row2col
+          .now) ((at-start .args) .hall .now)) _ ((sym (at-after-check-early .check-early .ensures (buffers ((at-start .args)
+          .size) (lent
           ((at-start .args) .visited .now) ((at-start .args) .cheap .now) ((at-start .args) .scol .now) ((at-start .args) .sat .now)
-          ((at-start .args) .row2col .now) ((at-start .args) .hall .now))) (at-after-lacks-room .lacks-room .ensures))) ∙ at-after-first
+          ((at-start .args) .row2col .now) ((at-start .args) .hall .now))) (at-after-lacks-room .lacks-room .ensures))) ∙
+          at-after-first
           .first .given .1),
-      early-means ((at-start .args) .size) ((at-start .args) .starts .now) ((at-start .args) .rows .now) (lent ((at-start .args) .visited
-          .now) ((at-start .args) .cheap .now) ((at-start .args) .scol .now) ((at-start .args) .sat .now) ((at-start .args) .row2col .now)
-          ((at-start .args) .hall .now)) _ _ ((sym (at-after-check-early .check-early .ensures (buffers ((at-start .args) .size) (lent
+      early-means ((at-start .args) .size) ((at-start .args) .starts .now) ((at-start .args) .rows .now) (lent ((at-start .args)
+          .visited
+          .now) ((at-start .args) .cheap .now) ((at-start .args) .scol .now) ((at-start .args) .sat .now) ((at-start .args)
+          .row2col .now)
+          ((at-start .args) .hall .now)) _ _ ((sym (at-after-check-early .check-early .ensures (buffers ((at-start .args) .size)
+          (lent
           ((at-start .args) .visited .now) ((at-start .args) .cheap .now) ((at-start .args) .scol .now) ((at-start .args) .sat .now)
-          ((at-start .args) .row2col .now) ((at-start .args) .hall .now))) (at-after-lacks-room .lacks-room .ensures))) ∙ at-after-first
+          ((at-start .args) .row2col .now) ((at-start .args) .hall .now))) (at-after-lacks-room .lacks-room .ensures))) ∙
+          at-after-first
           .first .given .1),
     )
 
@@ -76,11 +84,14 @@ clear-requires c κs =
     let at-after-enum-told = c .before in
     let at-after-check-early = at-after-enum-told .before .before in
     let at-after-lacks-room = at-after-check-early .before in
-    let at-start = at-after-lacks-room .before .before .before .before .before .before .before .before .before .before .before .before
+    let at-start = at-after-lacks-room .before .before .before .before .before .before .before .before .before .before .before
+    .before
     .before .before .before in
     (early-passed ((at-start .args) .size) ((at-start .args) .starts .now) ((at-start .args) .rows .now) (buffers ((at-start .args)
-    .size) (lent ((at-start .args) .visited .now) ((at-start .args) .cheap .now) ((at-start .args) .scol .now) ((at-start .args) .sat
-    .now) ((at-start .args) .row2col .now) ((at-start .args) .hall .now))) ((sym (at-after-check-early .check-early .ensures (buffers
+    .size) (lent ((at-start .args) .visited .now) ((at-start .args) .cheap .now) ((at-start .args) .scol .now) ((at-start .args)
+    .sat
+    .now) ((at-start .args) .row2col .now) ((at-start .args) .hall .now))) ((sym (at-after-check-early .check-early .ensures
+    (buffers
     ((at-start .args) .size) (lent ((at-start .args) .visited .now) ((at-start .args) .cheap .now) ((at-start .args) .scol .now)
     ((at-start .args) .sat .now) ((at-start .args) .row2col .now) ((at-start .args) .hall .now))) (at-after-lacks-room .lacks-room
     .ensures))) ∙ at-after-enum-told .enum-told .given .1)) .room .0
@@ -91,35 +102,51 @@ check-repeats-requires c κs =
     let at-after-enum-told = at-after-clear .before .before in
     let at-after-check-early = at-after-enum-told .before .before in
     let at-after-lacks-room = at-after-check-early .before in
-    let at-start = at-after-lacks-room .before .before .before .before .before .before .before .before .before .before .before .before
+    let at-start = at-after-lacks-room .before .before .before .before .before .before .before .before .before .before .before
+    .before
     .before .before .before in (
       (
-        (early-passed ((at-start .args) .size) ((at-start .args) .starts .now) ((at-start .args) .rows .now) (buffers ((at-start .args)
-            .size) (lent ((at-start .args) .visited .now) ((at-start .args) .cheap .now) ((at-start .args) .scol .now) ((at-start .args) .sat
-            .now) ((at-start .args) .row2col .now) ((at-start .args) .hall .now))) ((sym (at-after-check-early .check-early .ensures (buffers
-            ((at-start .args) .size) (lent ((at-start .args) .visited .now) ((at-start .args) .cheap .now) ((at-start .args) .scol .now)
-            ((at-start .args) .sat .now) ((at-start .args) .row2col .now) ((at-start .args) .hall .now))) (at-after-lacks-room .lacks-room
+        (early-passed ((at-start .args) .size) ((at-start .args) .starts .now) ((at-start .args) .rows .now) (buffers ((at-start
+            .args)
+            .size) (lent ((at-start .args) .visited .now) ((at-start .args) .cheap .now) ((at-start .args) .scol .now) ((at-start
+            .args) .sat
+            .now) ((at-start .args) .row2col .now) ((at-start .args) .hall .now))) ((sym (at-after-check-early .check-early
+            .ensures (buffers
+            ((at-start .args) .size) (lent ((at-start .args) .visited .now) ((at-start .args) .cheap .now) ((at-start .args)
+            .scol .now)
+            ((at-start .args) .sat .now) ((at-start .args) .row2col .now) ((at-start .args) .hall .now))) (at-after-lacks-room
+            .lacks-room
             .ensures))) ∙ at-after-enum-told .enum-told .given .1)) .shaped,
         (early-passed ((at-start .args) .size) ((at-start .args) .starts
-            .now) ((at-start .args) .rows .now) (buffers ((at-start .args) .size) (lent ((at-start .args) .visited .now) ((at-start .args)
-            .cheap .now) ((at-start .args) .scol .now) ((at-start .args) .sat .now) ((at-start .args) .row2col .now) ((at-start .args) .hall
-            .now))) ((sym (at-after-check-early .check-early .ensures (buffers ((at-start .args) .size) (lent ((at-start .args) .visited .now)
-            ((at-start .args) .cheap .now) ((at-start .args) .scol .now) ((at-start .args) .sat .now) ((at-start .args) .row2col .now)
-            ((at-start .args) .hall .now))) (at-after-lacks-room .lacks-room .ensures))) ∙ at-after-enum-told .enum-told .given .1)) .below,
+            .now) ((at-start .args) .rows .now) (buffers ((at-start .args) .size) (lent ((at-start .args) .visited .now)
+            ((at-start .args)
+            .cheap .now) ((at-start .args) .scol .now) ((at-start .args) .sat .now) ((at-start .args) .row2col .now) ((at-start
+            .args) .hall
+            .now))) ((sym (at-after-check-early .check-early .ensures (buffers ((at-start .args) .size) (lent ((at-start .args)
+            .visited .now)
+            ((at-start .args) .cheap .now) ((at-start .args) .scol .now) ((at-start .args) .sat .now) ((at-start .args) .row2col
+            .now)
+            ((at-start .args) .hall .now))) (at-after-lacks-room .lacks-room .ensures))) ∙ at-after-enum-told .enum-told .given
+            .1)) .below,
       ),
       (
         omega (
           arith,
           (early-passed ((at-start .args) .size) ((at-start .args) .starts .now) ((at-start .args) .rows .now) (buffers
-              ((at-start .args) .size) (lent ((at-start .args) .visited .now) ((at-start .args) .cheap .now) ((at-start .args) .scol .now)
-              ((at-start .args) .sat .now) ((at-start .args) .row2col .now) ((at-start .args) .hall .now))) ((sym (at-after-check-early
-              .check-early .ensures (buffers ((at-start .args) .size) (lent ((at-start .args) .visited .now) ((at-start .args) .cheap .now)
-              ((at-start .args) .scol .now) ((at-start .args) .sat .now) ((at-start .args) .row2col .now) ((at-start .args) .hall .now)))
+              ((at-start .args) .size) (lent ((at-start .args) .visited .now) ((at-start .args) .cheap .now) ((at-start .args)
+              .scol .now)
+              ((at-start .args) .sat .now) ((at-start .args) .row2col .now) ((at-start .args) .hall .now))) ((sym
+              (at-after-check-early
+              .check-early .ensures (buffers ((at-start .args) .size) (lent ((at-start .args) .visited .now) ((at-start .args)
+              .cheap .now)
+              ((at-start .args) .scol .now) ((at-start .args) .sat .now) ((at-start .args) .row2col .now) ((at-start .args) .hall
+              .now)))
               (at-after-lacks-room .lacks-room .ensures))) ∙ at-after-enum-told .enum-told .given .1)) .room .0,
           at-after-clear .clear .kept,
         ),
         rw
-            (at-after-clear .clear .ensures) (zero-below ((at-start .args) .size) ((at-start .args) .size) ((at-start .args) .visited .now)
+            (at-after-clear .clear .ensures) (zero-below ((at-start .args) .size) ((at-start .args) .size) ((at-start .args)
+            .visited .now)
             (omega arith)),
       ),
     )
@@ -134,38 +161,55 @@ clear-work-requires c κs =
     let at-after-enum-told = at-after-clear .before .before in
     let at-after-check-early = at-after-enum-told .before .before in
     let at-after-lacks-room = at-after-check-early .before in
-    let at-start = at-after-lacks-room .before .before .before .before .before .before .before .before .before .before .before .before
+    let at-start = at-after-lacks-room .before .before .before .before .before .before .before .before .before .before .before
+    .before
     .before .before .before in (
       omega (
         arith,
         (early-passed ((at-start .args) .size) ((at-start .args) .starts .now) ((at-start .args) .rows .now) (buffers
-            ((at-start .args) .size) (lent ((at-start .args) .visited .now) ((at-start .args) .cheap .now) ((at-start .args) .scol .now)
-            ((at-start .args) .sat .now) ((at-start .args) .row2col .now) ((at-start .args) .hall .now))) ((sym (at-after-check-early
-            .check-early .ensures (buffers ((at-start .args) .size) (lent ((at-start .args) .visited .now) ((at-start .args) .cheap .now)
-            ((at-start .args) .scol .now) ((at-start .args) .sat .now) ((at-start .args) .row2col .now) ((at-start .args) .hall .now)))
+            ((at-start .args) .size) (lent ((at-start .args) .visited .now) ((at-start .args) .cheap .now) ((at-start .args)
+            .scol .now)
+            ((at-start .args) .sat .now) ((at-start .args) .row2col .now) ((at-start .args) .hall .now))) ((sym
+            (at-after-check-early
+            .check-early .ensures (buffers ((at-start .args) .size) (lent ((at-start .args) .visited .now) ((at-start .args)
+            .cheap .now)
+            ((at-start .args) .scol .now) ((at-start .args) .sat .now) ((at-start .args) .row2col .now) ((at-start .args) .hall
+            .now)))
             (at-after-lacks-room .lacks-room .ensures))) ∙ at-after-enum-told .enum-told .given .1)) .room .0,
         at-after-clear .clear .kept,
         at-after-check-repeats .check-repeats .kept,
       ),
       (early-passed ((at-start .args) .size) ((at-start .args) .starts .now) ((at-start
           .args) .rows .now) (buffers ((at-start .args) .size) (lent ((at-start .args) .visited .now) ((at-start .args) .cheap .now)
-          ((at-start .args) .scol .now) ((at-start .args) .sat .now) ((at-start .args) .row2col .now) ((at-start .args) .hall .now))) ((sym
-          (at-after-check-early .check-early .ensures (buffers ((at-start .args) .size) (lent ((at-start .args) .visited .now) ((at-start
-          .args) .cheap .now) ((at-start .args) .scol .now) ((at-start .args) .sat .now) ((at-start .args) .row2col .now) ((at-start .args)
+          ((at-start .args) .scol .now) ((at-start .args) .sat .now) ((at-start .args) .row2col .now) ((at-start .args) .hall
+          .now))) ((sym
+          (at-after-check-early .check-early .ensures (buffers ((at-start .args) .size) (lent ((at-start .args) .visited .now)
+          ((at-start
+          .args) .cheap .now) ((at-start .args) .scol .now) ((at-start .args) .sat .now) ((at-start .args) .row2col .now)
+          ((at-start .args)
           .hall .now))) (at-after-lacks-room .lacks-room .ensures))) ∙ at-after-enum-told .enum-told .given .1)) .room .1 .0,
       (early-passed
-          ((at-start .args) .size) ((at-start .args) .starts .now) ((at-start .args) .rows .now) (buffers ((at-start .args) .size) (lent
+          ((at-start .args) .size) ((at-start .args) .starts .now) ((at-start .args) .rows .now) (buffers ((at-start .args)
+          .size) (lent
           ((at-start .args) .visited .now) ((at-start .args) .cheap .now) ((at-start .args) .scol .now) ((at-start .args) .sat .now)
-          ((at-start .args) .row2col .now) ((at-start .args) .hall .now))) ((sym (at-after-check-early .check-early .ensures (buffers
-          ((at-start .args) .size) (lent ((at-start .args) .visited .now) ((at-start .args) .cheap .now) ((at-start .args) .scol .now)
-          ((at-start .args) .sat .now) ((at-start .args) .row2col .now) ((at-start .args) .hall .now))) (at-after-lacks-room .lacks-room
+          ((at-start .args) .row2col .now) ((at-start .args) .hall .now))) ((sym (at-after-check-early .check-early .ensures
+          (buffers
+          ((at-start .args) .size) (lent ((at-start .args) .visited .now) ((at-start .args) .cheap .now) ((at-start .args) .scol
+          .now)
+          ((at-start .args) .sat .now) ((at-start .args) .row2col .now) ((at-start .args) .hall .now))) (at-after-lacks-room
+          .lacks-room
           .ensures))) ∙ at-after-enum-told .enum-told .given .1)) .room .1 .1 .0,
       (early-passed ((at-start .args) .size) ((at-start .args)
-          .starts .now) ((at-start .args) .rows .now) (buffers ((at-start .args) .size) (lent ((at-start .args) .visited .now) ((at-start
-          .args) .cheap .now) ((at-start .args) .scol .now) ((at-start .args) .sat .now) ((at-start .args) .row2col .now) ((at-start .args)
-          .hall .now))) ((sym (at-after-check-early .check-early .ensures (buffers ((at-start .args) .size) (lent ((at-start .args) .visited
-          .now) ((at-start .args) .cheap .now) ((at-start .args) .scol .now) ((at-start .args) .sat .now) ((at-start .args) .row2col .now)
-          ((at-start .args) .hall .now))) (at-after-lacks-room .lacks-room .ensures))) ∙ at-after-enum-told .enum-told .given .1)) .room .1
+          .starts .now) ((at-start .args) .rows .now) (buffers ((at-start .args) .size) (lent ((at-start .args) .visited .now)
+          ((at-start
+          .args) .cheap .now) ((at-start .args) .scol .now) ((at-start .args) .sat .now) ((at-start .args) .row2col .now)
+          ((at-start .args)
+          .hall .now))) ((sym (at-after-check-early .check-early .ensures (buffers ((at-start .args) .size) (lent ((at-start
+          .args) .visited
+          .now) ((at-start .args) .cheap .now) ((at-start .args) .scol .now) ((at-start .args) .sat .now) ((at-start .args)
+          .row2col .now)
+          ((at-start .args) .hall .now))) (at-after-lacks-room .lacks-room .ensures))) ∙ at-after-enum-told .enum-told .given
+          .1)) .room .1
           .1 .1 .0,
     )
 
@@ -196,22 +240,31 @@ returns-2 c =
     let at-after-enum-told = at-after-clear .before .before in
     let at-after-check-early = at-after-enum-told .before .before in
     let at-after-lacks-room = at-after-check-early .before in
-    let at-start = at-after-lacks-room .before .before .before .before .before .before .before .before .before .before .before .before
+    let at-start = at-after-lacks-room .before .before .before .before .before .before .before .before .before .before .before
+    .before
     .before .before .before in
     let e = sym (at-after-check-repeats .check-repeats .ensures .0) ∙ at-after-second .second .given .1 in (
       ap (ended (Refused _)) (at-after-clear-work .clear-work .ensures _ _ ∙ cleared-same ((at-start .args) .size) (lent ((at-start
-          .args) .visited .now) ((at-start .args) .cheap .now) ((at-start .args) .scol .now) ((at-start .args) .sat .now) ((at-start .args)
-          .row2col .now) ((at-start .args) .hall .now)) (lent _ _ _ _ ((at-start .args) .row2col .now) ((at-start .args) .hall .now)) _ _ (ap
-          (drop ((at-start .args) .size)) (at-after-check-repeats .check-repeats .ensures .1) ∙ filled-beyond ((at-start .args) .size) 0
+          .args) .visited .now) ((at-start .args) .cheap .now) ((at-start .args) .scol .now) ((at-start .args) .sat .now)
+          ((at-start .args)
+          .row2col .now) ((at-start .args) .hall .now)) (lent _ _ _ _ ((at-start .args) .row2col .now) ((at-start .args) .hall
+          .now)) _ _ (ap
+          (drop ((at-start .args) .size)) (at-after-check-repeats .check-repeats .ensures .1) ∙ filled-beyond ((at-start .args)
+          .size) 0
           ((at-start .args) .visited .now) (at-after-clear .clear .ensures)) refl refl refl)
-          ∙ repeat-outcome ((at-start .args) .size) ((at-start .args) .starts .now) ((at-start .args) .rows .now) (lent ((at-start .args)
-          .visited .now) ((at-start .args) .cheap .now) ((at-start .args) .scol .now) ((at-start .args) .sat .now) ((at-start .args) .row2col
-          .now) ((at-start .args) .hall .now)) _ ((sym (at-after-check-early .check-early .ensures (buffers ((at-start .args) .size) (lent
+          ∙ repeat-outcome ((at-start .args) .size) ((at-start .args) .starts .now) ((at-start .args) .rows .now) (lent
+          ((at-start .args)
+          .visited .now) ((at-start .args) .cheap .now) ((at-start .args) .scol .now) ((at-start .args) .sat .now) ((at-start
+          .args) .row2col
+          .now) ((at-start .args) .hall .now)) _ ((sym (at-after-check-early .check-early .ensures (buffers ((at-start .args)
+          .size) (lent
           ((at-start .args) .visited .now) ((at-start .args) .cheap .now) ((at-start .args) .scol .now) ((at-start .args) .sat .now)
-          ((at-start .args) .row2col .now) ((at-start .args) .hall .now))) (at-after-lacks-room .lacks-room .ensures))) ∙ at-after-enum-told
+          ((at-start .args) .row2col .now) ((at-start .args) .hall .now))) (at-after-lacks-room .lacks-room .ensures))) ∙
+          at-after-enum-told
           .enum-told .given .1) e,
       repeat-means ((at-start .args) .size) ((at-start .args) .starts .now) ((at-start .args) .rows .now) (lent ((at-start .args)
-          .visited .now) ((at-start .args) .cheap .now) ((at-start .args) .scol .now) ((at-start .args) .sat .now) ((at-start .args) .row2col
+          .visited .now) ((at-start .args) .cheap .now) ((at-start .args) .scol .now) ((at-start .args) .sat .now) ((at-start
+          .args) .row2col
           .now) ((at-start .args) .hall .now)) _ _ e,
     )
 
@@ -225,40 +278,59 @@ match-valid-requires c κs =
     let at-after-enum-told = at-after-clear .before .before in
     let at-after-check-early = at-after-enum-told .before .before in
     let at-after-lacks-room = at-after-check-early .before in
-    let at-start = at-after-lacks-room .before .before .before .before .before .before .before .before .before .before .before .before
+    let at-start = at-after-lacks-room .before .before .before .before .before .before .before .before .before .before .before
+    .before
     .before .before .before in (
       (
-        (early-passed ((at-start .args) .size) ((at-start .args) .starts .now) ((at-start .args) .rows .now) (buffers ((at-start .args)
-            .size) (lent ((at-start .args) .visited .now) ((at-start .args) .cheap .now) ((at-start .args) .scol .now) ((at-start .args) .sat
-            .now) ((at-start .args) .row2col .now) ((at-start .args) .hall .now))) ((sym (at-after-check-early .check-early .ensures (buffers
-            ((at-start .args) .size) (lent ((at-start .args) .visited .now) ((at-start .args) .cheap .now) ((at-start .args) .scol .now)
-            ((at-start .args) .sat .now) ((at-start .args) .row2col .now) ((at-start .args) .hall .now))) (at-after-lacks-room .lacks-room
+        (early-passed ((at-start .args) .size) ((at-start .args) .starts .now) ((at-start .args) .rows .now) (buffers ((at-start
+            .args)
+            .size) (lent ((at-start .args) .visited .now) ((at-start .args) .cheap .now) ((at-start .args) .scol .now) ((at-start
+            .args) .sat
+            .now) ((at-start .args) .row2col .now) ((at-start .args) .hall .now))) ((sym (at-after-check-early .check-early
+            .ensures (buffers
+            ((at-start .args) .size) (lent ((at-start .args) .visited .now) ((at-start .args) .cheap .now) ((at-start .args)
+            .scol .now)
+            ((at-start .args) .sat .now) ((at-start .args) .row2col .now) ((at-start .args) .hall .now))) (at-after-lacks-room
+            .lacks-room
             .ensures))) ∙ at-after-enum-told .enum-told .given .1)) .shaped,
         (early-passed ((at-start .args) .size) ((at-start .args) .starts
-            .now) ((at-start .args) .rows .now) (buffers ((at-start .args) .size) (lent ((at-start .args) .visited .now) ((at-start .args)
-            .cheap .now) ((at-start .args) .scol .now) ((at-start .args) .sat .now) ((at-start .args) .row2col .now) ((at-start .args) .hall
-            .now))) ((sym (at-after-check-early .check-early .ensures (buffers ((at-start .args) .size) (lent ((at-start .args) .visited .now)
-            ((at-start .args) .cheap .now) ((at-start .args) .scol .now) ((at-start .args) .sat .now) ((at-start .args) .row2col .now)
-            ((at-start .args) .hall .now))) (at-after-lacks-room .lacks-room .ensures))) ∙ at-after-enum-told .enum-told .given .1)) .below,
+            .now) ((at-start .args) .rows .now) (buffers ((at-start .args) .size) (lent ((at-start .args) .visited .now)
+            ((at-start .args)
+            .cheap .now) ((at-start .args) .scol .now) ((at-start .args) .sat .now) ((at-start .args) .row2col .now) ((at-start
+            .args) .hall
+            .now))) ((sym (at-after-check-early .check-early .ensures (buffers ((at-start .args) .size) (lent ((at-start .args)
+            .visited .now)
+            ((at-start .args) .cheap .now) ((at-start .args) .scol .now) ((at-start .args) .sat .now) ((at-start .args) .row2col
+            .now)
+            ((at-start .args) .hall .now))) (at-after-lacks-room .lacks-room .ensures))) ∙ at-after-enum-told .enum-told .given
+            .1)) .below,
       ),
       (
         (
           omega (
             arith,
             (early-passed ((at-start .args) .size) ((at-start .args) .starts .now) ((at-start .args) .rows .now) (buffers
-                ((at-start .args) .size) (lent ((at-start .args) .visited .now) ((at-start .args) .cheap .now) ((at-start .args) .scol .now)
-                ((at-start .args) .sat .now) ((at-start .args) .row2col .now) ((at-start .args) .hall .now))) ((sym (at-after-check-early
-                .check-early .ensures (buffers ((at-start .args) .size) (lent ((at-start .args) .visited .now) ((at-start .args) .cheap .now)
-                ((at-start .args) .scol .now) ((at-start .args) .sat .now) ((at-start .args) .row2col .now) ((at-start .args) .hall .now)))
+                ((at-start .args) .size) (lent ((at-start .args) .visited .now) ((at-start .args) .cheap .now) ((at-start .args)
+                .scol .now)
+                ((at-start .args) .sat .now) ((at-start .args) .row2col .now) ((at-start .args) .hall .now))) ((sym
+                (at-after-check-early
+                .check-early .ensures (buffers ((at-start .args) .size) (lent ((at-start .args) .visited .now) ((at-start .args)
+                .cheap .now)
+                ((at-start .args) .scol .now) ((at-start .args) .sat .now) ((at-start .args) .row2col .now) ((at-start .args)
+                .hall .now)))
                 (at-after-lacks-room .lacks-room .ensures))) ∙ at-after-enum-told .enum-told .given .1)) .room .0,
             at-after-clear .clear .kept,
             at-after-check-repeats .check-repeats .kept,
           ),
           (early-passed ((at-start .args) .size) ((at-start .args) .starts .now) ((at-start
-              .args) .rows .now) (buffers ((at-start .args) .size) (lent ((at-start .args) .visited .now) ((at-start .args) .cheap .now)
-              ((at-start .args) .scol .now) ((at-start .args) .sat .now) ((at-start .args) .row2col .now) ((at-start .args) .hall .now))) ((sym
-              (at-after-check-early .check-early .ensures (buffers ((at-start .args) .size) (lent ((at-start .args) .visited .now) ((at-start
-              .args) .cheap .now) ((at-start .args) .scol .now) ((at-start .args) .sat .now) ((at-start .args) .row2col .now) ((at-start .args)
+              .args) .rows .now) (buffers ((at-start .args) .size) (lent ((at-start .args) .visited .now) ((at-start .args)
+              .cheap .now)
+              ((at-start .args) .scol .now) ((at-start .args) .sat .now) ((at-start .args) .row2col .now) ((at-start .args) .hall
+              .now))) ((sym
+              (at-after-check-early .check-early .ensures (buffers ((at-start .args) .size) (lent ((at-start .args) .visited
+              .now) ((at-start
+              .args) .cheap .now) ((at-start .args) .scol .now) ((at-start .args) .sat .now) ((at-start .args) .row2col .now)
+              ((at-start .args)
               .hall .now))) (at-after-lacks-room .lacks-room .ensures))) ∙ at-after-enum-told .enum-told .given .1)) .room .1,
         ),
         rw (at-after-check-repeats .check-repeats .ensures .1, at-after-clear .clear .ensures) (zero-below ((at-start .args) .size)
@@ -270,21 +342,27 @@ clear-work-requires-2 : tie.Need-clear-work-requires-2
 clear-work-requires-2 c κs =
     let at-after-match-valid = c .before .before .before .before .before .before .before .before .before .before .before .before
     .before .before .before .before in
-    let at-after-check-repeats = at-after-match-valid .before .before .before .before .before .before .before .before .before .before
+    let at-after-check-repeats = at-after-match-valid .before .before .before .before .before .before .before .before .before
+    .before
     .before in
     let at-after-clear = at-after-check-repeats .before .before .before .before in
     let at-after-enum-told = at-after-clear .before .before in
     let at-after-check-early = at-after-enum-told .before .before in
     let at-after-lacks-room = at-after-check-early .before in
-    let at-start = at-after-lacks-room .before .before .before .before .before .before .before .before .before .before .before .before
+    let at-start = at-after-lacks-room .before .before .before .before .before .before .before .before .before .before .before
+    .before
     .before .before .before in (
       omega (
         arith,
         (early-passed ((at-start .args) .size) ((at-start .args) .starts .now) ((at-start .args) .rows .now) (buffers
-            ((at-start .args) .size) (lent ((at-start .args) .visited .now) ((at-start .args) .cheap .now) ((at-start .args) .scol .now)
-            ((at-start .args) .sat .now) ((at-start .args) .row2col .now) ((at-start .args) .hall .now))) ((sym (at-after-check-early
-            .check-early .ensures (buffers ((at-start .args) .size) (lent ((at-start .args) .visited .now) ((at-start .args) .cheap .now)
-            ((at-start .args) .scol .now) ((at-start .args) .sat .now) ((at-start .args) .row2col .now) ((at-start .args) .hall .now)))
+            ((at-start .args) .size) (lent ((at-start .args) .visited .now) ((at-start .args) .cheap .now) ((at-start .args)
+            .scol .now)
+            ((at-start .args) .sat .now) ((at-start .args) .row2col .now) ((at-start .args) .hall .now))) ((sym
+            (at-after-check-early
+            .check-early .ensures (buffers ((at-start .args) .size) (lent ((at-start .args) .visited .now) ((at-start .args)
+            .cheap .now)
+            ((at-start .args) .scol .now) ((at-start .args) .sat .now) ((at-start .args) .row2col .now) ((at-start .args) .hall
+            .now)))
             (at-after-lacks-room .lacks-room .ensures))) ∙ at-after-enum-told .enum-told .given .1)) .room .0,
         at-after-clear .clear .kept,
         at-after-check-repeats .check-repeats .kept,
@@ -293,33 +371,48 @@ clear-work-requires-2 c κs =
       omega (
         arith,
         (early-passed ((at-start
-            .args) .size) ((at-start .args) .starts .now) ((at-start .args) .rows .now) (buffers ((at-start .args) .size) (lent ((at-start
-            .args) .visited .now) ((at-start .args) .cheap .now) ((at-start .args) .scol .now) ((at-start .args) .sat .now) ((at-start .args)
-            .row2col .now) ((at-start .args) .hall .now))) ((sym (at-after-check-early .check-early .ensures (buffers ((at-start .args) .size)
-            (lent ((at-start .args) .visited .now) ((at-start .args) .cheap .now) ((at-start .args) .scol .now) ((at-start .args) .sat .now)
-            ((at-start .args) .row2col .now) ((at-start .args) .hall .now))) (at-after-lacks-room .lacks-room .ensures))) ∙ at-after-enum-told
+            .args) .size) ((at-start .args) .starts .now) ((at-start .args) .rows .now) (buffers ((at-start .args) .size) (lent
+            ((at-start
+            .args) .visited .now) ((at-start .args) .cheap .now) ((at-start .args) .scol .now) ((at-start .args) .sat .now)
+            ((at-start .args)
+            .row2col .now) ((at-start .args) .hall .now))) ((sym (at-after-check-early .check-early .ensures (buffers ((at-start
+            .args) .size)
+            (lent ((at-start .args) .visited .now) ((at-start .args) .cheap .now) ((at-start .args) .scol .now) ((at-start .args)
+            .sat .now)
+            ((at-start .args) .row2col .now) ((at-start .args) .hall .now))) (at-after-lacks-room .lacks-room .ensures))) ∙
+            at-after-enum-told
             .enum-told .given .1)) .room .1 .0,
         (at-after-match-valid .match-valid) .kept,
       ),
       omega (
         arith,
         (early-passed ((at-start .args)
-            .size) ((at-start .args) .starts .now) ((at-start .args) .rows .now) (buffers ((at-start .args) .size) (lent ((at-start .args)
-            .visited .now) ((at-start .args) .cheap .now) ((at-start .args) .scol .now) ((at-start .args) .sat .now) ((at-start .args) .row2col
-            .now) ((at-start .args) .hall .now))) ((sym (at-after-check-early .check-early .ensures (buffers ((at-start .args) .size) (lent
-            ((at-start .args) .visited .now) ((at-start .args) .cheap .now) ((at-start .args) .scol .now) ((at-start .args) .sat .now)
-            ((at-start .args) .row2col .now) ((at-start .args) .hall .now))) (at-after-lacks-room .lacks-room .ensures))) ∙ at-after-enum-told
+            .size) ((at-start .args) .starts .now) ((at-start .args) .rows .now) (buffers ((at-start .args) .size) (lent
+            ((at-start .args)
+            .visited .now) ((at-start .args) .cheap .now) ((at-start .args) .scol .now) ((at-start .args) .sat .now) ((at-start
+            .args) .row2col
+            .now) ((at-start .args) .hall .now))) ((sym (at-after-check-early .check-early .ensures (buffers ((at-start .args)
+            .size) (lent
+            ((at-start .args) .visited .now) ((at-start .args) .cheap .now) ((at-start .args) .scol .now) ((at-start .args) .sat
+            .now)
+            ((at-start .args) .row2col .now) ((at-start .args) .hall .now))) (at-after-lacks-room .lacks-room .ensures))) ∙
+            at-after-enum-told
             .enum-told .given .1)) .room .1 .1 .0,
         (at-after-match-valid .match-valid) .kept,
       ),
       omega (
         arith,
         (early-passed ((at-start .args)
-            .size) ((at-start .args) .starts .now) ((at-start .args) .rows .now) (buffers ((at-start .args) .size) (lent ((at-start .args)
-            .visited .now) ((at-start .args) .cheap .now) ((at-start .args) .scol .now) ((at-start .args) .sat .now) ((at-start .args) .row2col
-            .now) ((at-start .args) .hall .now))) ((sym (at-after-check-early .check-early .ensures (buffers ((at-start .args) .size) (lent
-            ((at-start .args) .visited .now) ((at-start .args) .cheap .now) ((at-start .args) .scol .now) ((at-start .args) .sat .now)
-            ((at-start .args) .row2col .now) ((at-start .args) .hall .now))) (at-after-lacks-room .lacks-room .ensures))) ∙ at-after-enum-told
+            .size) ((at-start .args) .starts .now) ((at-start .args) .rows .now) (buffers ((at-start .args) .size) (lent
+            ((at-start .args)
+            .visited .now) ((at-start .args) .cheap .now) ((at-start .args) .scol .now) ((at-start .args) .sat .now) ((at-start
+            .args) .row2col
+            .now) ((at-start .args) .hall .now))) ((sym (at-after-check-early .check-early .ensures (buffers ((at-start .args)
+            .size) (lent
+            ((at-start .args) .visited .now) ((at-start .args) .cheap .now) ((at-start .args) .scol .now) ((at-start .args) .sat
+            .now)
+            ((at-start .args) .row2col .now) ((at-start .args) .hall .now))) (at-after-lacks-room .lacks-room .ensures))) ∙
+            at-after-enum-told
             .enum-told .given .1)) .room .1 .1 .1 .0,
         (at-after-match-valid .match-valid) .kept,
       ),
@@ -330,7 +423,8 @@ same-length-13 c =
     let at-after-clear-work2 = c .before .before .before .before .before .before .before .before in
     let at-after-match-valid = at-after-clear-work2 .before .before .before .before .before .before .before .before .before .before
     .before .before .before .before .before .before .before in
-    let at-after-check-repeats = at-after-match-valid .before .before .before .before .before .before .before .before .before .before
+    let at-after-check-repeats = at-after-match-valid .before .before .before .before .before .before .before .before .before
+    .before
     .before in
     let at-after-clear = at-after-check-repeats .before .before .before .before in
     omega (
@@ -367,32 +461,45 @@ returns-3 c =
     let at-after-enum-told = at-after-clear .before .before in
     let at-after-check-early = at-after-enum-told .before .before in
     let at-after-lacks-room = at-after-check-early .before in
-    let at-start = at-after-lacks-room .before .before .before .before .before .before .before .before .before .before .before .before
+    let at-start = at-after-lacks-room .before .before .before .before .before .before .before .before .before .before .before
+    .before
     .before .before .before in
     let e = sym (at-after-check-repeats .check-repeats .ensures .0) ∙ at-after-enum-told2 .enum-told2 .given .1 in
-    let f = ap (ended ((at-after-match-valid .match-valid) .result)) (at-after-clear-work2 .clear-work2 .ensures ((at-after-match-valid
-    .match-valid) .last .1 .1 .1 .1 .1 .1 .1 .0) ((at-after-match-valid .match-valid) .last .1 .1 .1 .1 .1 .1 .1 .1 .0) ∙ cleared-same
+    let f = ap (ended ((at-after-match-valid .match-valid) .result)) (at-after-clear-work2 .clear-work2 .ensures
+    ((at-after-match-valid
+    .match-valid) .last .1 .1 .1 .1 .1 .1 .1 .0) ((at-after-match-valid .match-valid) .last .1 .1 .1 .1 .1 .1 .1 .1 .0) ∙
+    cleared-same
     ((at-start .args) .size) (lent ((at-start .args) .visited .now) ((at-start .args) .cheap .now) ((at-start .args) .scol .now)
-    ((at-start .args) .sat .now) ((at-start .args) .row2col .now) ((at-start .args) .hall .now)) (lent _ _ _ _ ((at-after-match-valid
+    ((at-start .args) .sat .now) ((at-start .args) .row2col .now) ((at-start .args) .hall .now)) (lent _ _ _ _
+    ((at-after-match-valid
     .match-valid) .last .1 .1 .1 .1 .1 .1 .1 .0) ((at-after-match-valid .match-valid) .last .1 .1 .1 .1 .1 .1 .1 .1 .0))
-    ((at-after-match-valid .match-valid) .last .1 .1 .1 .1 .1 .1 .1 .0) ((at-after-match-valid .match-valid) .last .1 .1 .1 .1 .1 .1 .1
+    ((at-after-match-valid .match-valid) .last .1 .1 .1 .1 .1 .1 .1 .0) ((at-after-match-valid .match-valid) .last .1 .1 .1 .1 .1
+    .1 .1
     .1 .0) ((at-after-match-valid .match-valid) .ensures .1 .0 ∙ (ap (drop ((at-start .args) .size)) (at-after-check-repeats
     .check-repeats .ensures .1) ∙ filled-beyond ((at-start .args) .size) 0 ((at-start .args) .visited .now) (at-after-clear .clear
     .ensures))) ((at-after-match-valid .match-valid) .ensures .1 .1) ((at-after-match-valid .match-valid) .ensures .1 .2)
     ((at-after-match-valid .match-valid) .ensures .1 .3))
-    ∙ (at-after-match-valid .match-valid) .ensures .0 (lent ((at-start .args) .visited .now) ((at-start .args) .cheap .now) ((at-start
+    ∙ (at-after-match-valid .match-valid) .ensures .0 (lent ((at-start .args) .visited .now) ((at-start .args) .cheap .now)
+    ((at-start
     .args) .scol .now) ((at-start .args) .sat .now) ((at-start .args) .row2col .now) ((at-start .args) .hall .now)) refl refl in (
-      f ∙ verdict-outcome ((at-start .args) .size) ((at-start .args) .starts .now) ((at-start .args) .rows .now) (lent ((at-start .args)
-          .visited .now) ((at-start .args) .cheap .now) ((at-start .args) .scol .now) ((at-start .args) .sat .now) ((at-start .args) .row2col
-          .now) ((at-start .args) .hall .now)) ((sym (at-after-check-early .check-early .ensures (buffers ((at-start .args) .size) (lent
+      f ∙ verdict-outcome ((at-start .args) .size) ((at-start .args) .starts .now) ((at-start .args) .rows .now) (lent ((at-start
+          .args)
+          .visited .now) ((at-start .args) .cheap .now) ((at-start .args) .scol .now) ((at-start .args) .sat .now) ((at-start
+          .args) .row2col
+          .now) ((at-start .args) .hall .now)) ((sym (at-after-check-early .check-early .ensures (buffers ((at-start .args)
+          .size) (lent
           ((at-start .args) .visited .now) ((at-start .args) .cheap .now) ((at-start .args) .scol .now) ((at-start .args) .sat .now)
-          ((at-start .args) .row2col .now) ((at-start .args) .hall .now))) (at-after-lacks-room .lacks-room .ensures))) ∙ at-after-enum-told
+          ((at-start .args) .row2col .now) ((at-start .args) .hall .now))) (at-after-lacks-room .lacks-room .ensures))) ∙
+          at-after-enum-told
           .enum-told .given .1) e,
       verdict-means ((at-start .args) .size) ((at-start .args) .starts .now) ((at-start .args) .rows .now) (lent ((at-start .args)
-          .visited .now) ((at-start .args) .cheap .now) ((at-start .args) .scol .now) ((at-start .args) .sat .now) ((at-start .args) .row2col
-          .now) ((at-start .args) .hall .now)) _ _ ((sym (at-after-check-early .check-early .ensures (buffers ((at-start .args) .size) (lent
+          .visited .now) ((at-start .args) .cheap .now) ((at-start .args) .scol .now) ((at-start .args) .sat .now) ((at-start
+          .args) .row2col
+          .now) ((at-start .args) .hall .now)) _ _ ((sym (at-after-check-early .check-early .ensures (buffers ((at-start .args)
+          .size) (lent
           ((at-start .args) .visited .now) ((at-start .args) .cheap .now) ((at-start .args) .scol .now) ((at-start .args) .sat .now)
-          ((at-start .args) .row2col .now) ((at-start .args) .hall .now))) (at-after-lacks-room .lacks-room .ensures))) ∙ at-after-enum-told
+          ((at-start .args) .row2col .now) ((at-start .args) .hall .now))) (at-after-lacks-room .lacks-room .ensures))) ∙
+          at-after-enum-told
           .enum-told .given .1) e f,
     )
 

@@ -30,7 +30,8 @@ returns c =
     let at-after-mark-hall = c .before .before in
     let at-after-clear = at-after-mark-hall .before .before .before .before in
     let at-then1 = at-after-clear .before .before in
-    λ l v E same h. hand-refused _ _ _ _ _ _ _ l v (at-then1 .if1 .taken) E same (at-after-clear .clear .ensures) h (at-after-mark-hall
+    λ l v E same h. hand-refused _ _ _ _ _ _ _ l v (at-then1 .if1 .taken) E same (at-after-clear .clear .ensures) h
+    (at-after-mark-hall
     .mark-hall .ensures)
 
 clear-requires-2 : tie.Need-clear-requires-2
@@ -44,7 +45,8 @@ returns-2 c =
     let at-after-clear2 = c .before .before in
     let at-else1 = at-after-clear2 .before .before in
     let at-start = at-else1 .before .before .before .before in
-    λ l v E same h. hand-accepted _ _ _ _ _ _ l v (at-start .pre .2) (at-else1 .if1 .left) E same h (at-after-clear2 .clear2 .ensures)
+    λ l v E same h. hand-accepted _ _ _ _ _ _ l v (at-start .pre .2) (at-else1 .if1 .left) E same h (at-after-clear2 .clear2
+    .ensures)
 
 pub hand-out-spec : {M : Type 1} → statement M
 hand-out-spec =

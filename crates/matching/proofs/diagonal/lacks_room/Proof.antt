@@ -64,7 +64,8 @@ returns c =
     (at-start .args .sat .now) (at-start .args .row2col .now) (at-start .args .hall .now)) _ _ _ _ _ _ _ _ _ _ _
     (at-after-matching-need .matching-need .ensures) (at-after-is-short .is-short .ensures) (at-after-is-short2 .is-short2 .ensures)
     (at-after-or .or .ensures)
-    (at-after-is-short3 .is-short3 .ensures) (at-after-is-short4 .is-short4 .ensures) (at-after-or2 .or2 .ensures) (at-after-or3 .or3
+    (at-after-is-short3 .is-short3 .ensures) (at-after-is-short4 .is-short4 .ensures) (at-after-or2 .or2 .ensures) (at-after-or3
+    .or3
     .ensures)
     (at-after-is-short5 .is-short5 .ensures) (at-after-is-short6 .is-short6 .ensures) (at-after-or4 .or4 .ensures) (c .or5 .ensures)
 

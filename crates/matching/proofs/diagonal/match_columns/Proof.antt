@@ -25,14 +25,20 @@ abbrev μ-loop : tie.MeasureT-loop
 
 -- what the search of this turn leaves
 made : (c : tie.After-search Inv-loop μ-loop) → Made ((c .before .before .before .before .before .before .before .before .before
-    .before .before .before .before .before .before .before .args) .size) (columnOr ((c .before .before .before .before .before .before
+    .before .before .before .before .before .before .before .args) .size) (columnOr ((c .before .before .before .before .before
+    .before
     .before .before .before .before .before .before .before .before .before .before .args) .starts .now) ((c .before .before .before
-    .before .before .before .before .before .before .before .before .before .before .before .before .before .args) .rows .now) none [])
-    ((c .before .before .before .before .before .before .before .loop) .c) ((c .before .before .before .before .before .before .before
+    .before .before .before .before .before .before .before .before .before .before .before .before .before .args) .rows .now)
+    none [])
+    ((c .before .before .before .before .before .before .before .loop) .c) ((c .before .before .before .before .before .before
+    .before
     .loop) .visited) ((c .before .before .before .before .before .before .before .loop) .cheap) ((c .before .before .before .before
-    .before .before .before .loop) .scol) ((c .before .before .before .before .before .before .before .loop) .sat) ((c .before .before
-    .before .before .before .before .before .loop) .row2col) ((c .search .last .1 .1 .1 .1 .1 .1 .1) .0) ((c .search .last .1 .1 .1 .1
-    .1 .1 .1) .1 .0) ((c .search .last .1 .1 .1 .1 .1 .1 .1) .1 .1 .0) ((c .search .last .1 .1 .1 .1 .1 .1 .1) .1 .1 .1 .0) ((c .search
+    .before .before .before .loop) .scol) ((c .before .before .before .before .before .before .before .loop) .sat) ((c .before
+    .before
+    .before .before .before .before .before .loop) .row2col) ((c .search .last .1 .1 .1 .1 .1 .1 .1) .0) ((c .search .last .1 .1
+    .1 .1
+    .1 .1 .1) .1 .0) ((c .search .last .1 .1 .1 .1 .1 .1 .1) .1 .1 .0) ((c .search .last .1 .1 .1 .1 .1 .1 .1) .1 .1 .1 .0) ((c
+    .search
     .last .1 .1 .1 .1 .1 .1 .1) .1 .1 .1 .1 .0) (c .search .result)
 made c = record {
   ends = c .search .ensures .0;
@@ -90,7 +96,8 @@ returns c =
     let at-in-loop = at-after-search .before .before .before .before .before .before in
     let at-loop = at-in-loop .before in
     let at-start = at-loop .before .before .before .before .before .before .before .before .before in (
-      ends-unedited _ _ _ (at-start .pre .0 .0) (going-failed ((at-loop .loop) .inv) (at-in-loop .loop-test .taken) (subst (Made _ _ _ _
+      ends-unedited _ _ _ (at-start .pre .0 .0) (going-failed ((at-loop .loop) .inv) (at-in-loop .loop-test .taken) (subst (Made
+          _ _ _ _
           _ _ _ _ _ _ _ _ _) (not-true _ (c .if1 .taken)) (made at-after-search))),
       slices-beyond (made-slices ((at-loop .loop) .inv) (at-in-loop .loop-test .taken) (made at-after-search)),
     )

@@ -30,7 +30,8 @@ match-columns-requires c κs =
     let at-start = at-after-clear .before .before .before .before .before .before .before .before .before .before in (
       at-start .pre .0,
       fresh ((at-start .args) .size) (lent ((at-start .args) .visited .now) ((at-start .args) .cheap .now) ((at-start
-          .args) .scol .now) ((at-start .args) .sat .now) ((at-start .args) .row2col .now) ((at-start .args) .hall .now)) (at-start .pre .1
+          .args) .scol .now) ((at-start .args) .sat .now) ((at-start .args) .row2col .now) ((at-start .args) .hall .now))
+          (at-start .pre .1
           .0) (at-start .pre .1 .1) (at-after-clear .clear .ensures) (at-after-fill .fill .ensures) (omega (
             arith,
             at-after-clear .clear
@@ -79,8 +80,10 @@ returns c =
     let at-after-clear = at-after-fill .before .before .before .before in
     let at-start = at-after-clear .before .before .before .before .before .before .before .before .before .before in (
       λ l e f. at-after-hand-out .hand-out .ensures l (matching ((at-start .args) .size) (column ((at-start .args) .starts .now)
-          ((at-start .args) .rows .now))) (at-after-match-columns .match-columns .ensures .0) (at-after-match-columns .match-columns .ensures
-          .1 .0 ∙ filled-beyond ((at-start .args) .size) none ((at-start .args) .row2col .now) (at-after-fill .fill .ensures) ∙ ap (drop
+          ((at-start .args) .rows .now))) (at-after-match-columns .match-columns .ensures .0) (at-after-match-columns
+          .match-columns .ensures
+          .1 .0 ∙ filled-beyond ((at-start .args) .size) none ((at-start .args) .row2col .now) (at-after-fill .fill .ensures) ∙
+          ap (drop
           ((at-start .args) .size)) (sym e)) (sym f),
       (
         at-after-match-columns .match-columns .ensures .1 .1 .0,
