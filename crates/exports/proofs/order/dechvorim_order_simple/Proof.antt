@@ -1,8 +1,9 @@
+-- `dechvorim_order_simple` meets its contract: the order's outcome, taken apart.
 use Rattle.ordering.specs.Order.{Outcome, numberOf, placeOf}
 use mathlib.Core.Path.{sym, ap, _∙_}
 use borrow.Author.Needs.{needs}
-use Rattle.exports.proofs.dechvorim_order_simple.Statement.{statement}
-use Rattle.exports.proofs.dechvorim_order_simple.Tie as tie
+use Rattle.exports.proofs.order.dechvorim_order_simple.Statement.{statement}
+use Rattle.exports.proofs.order.dechvorim_order_simple.Tie as tie
 
 order-simple-requires : tie.Need-order-simple-requires
 order-simple-requires c κs = search needs
