@@ -1,4 +1,4 @@
--- What only private functions cite: where a scan of a column's rows stops, and how a search goes on from there.
+-- What the parts of a search cite, one of which the walks of the blocks share: where a scan of rows stops, and how it goes on from there.
 use Prim.Native.Nat.{ℕ, _+_, _≤_, _<_}
 use mathlib.Core.Path.{_≡_}
 use mathlib.Core.Logic.{_≢_}

@@ -43,7 +43,7 @@ fn scan_free(size: u32, col: &[u32], row2col: &[u32], from: u32) -> u32
 }
 
 // The first place of a column's rows, from a place on, whose row's column is not visited; behind the last where there is none.
-fn scan_next(col: &[u32], row2col: &[u32], visited: &[u32], mark: u32, from: u32) -> u32
+pub fn scan_next(col: &[u32], row2col: &[u32], visited: &[u32], mark: u32, from: u32) -> u32
     requires { ⌜ (length (now col) ≤ maxEntries) × RowsBelow (now col) (length (now row2col)) ⌝ }
     requires { ⌜ ((k : ℕ) → k < length (now col) → colAt (now row2col) (now col) k < length (now visited)) ⌝ }
     ensures { λ r. ⌜ OpenPlace mark (now (visited .entry)) (now (row2col .entry)) (now (col .entry)) from r ⌝ }
@@ -60,7 +60,7 @@ fn scan_next(col: &[u32], row2col: &[u32], visited: &[u32], mark: u32, from: u32
 
 // Goes on from the step on top, whose rows from a place on are to be scanned: the first column that is not visited is put on the stack,
 // or the step is taken off. Returns the stack's depth.
-fn advance(
+pub fn advance(
     col: &[u32],
     row2col: &[u32],
     visited: &[u32],

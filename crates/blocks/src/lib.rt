@@ -1,0 +1,2 @@
+// The block triangular form of a matrix.
+pub mod walk;
