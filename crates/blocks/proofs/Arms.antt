@@ -14,7 +14,7 @@ use Rattle.matching.specs.Parts.{colAt, Advance}
 use Rattle.matching.proofs.Arms.{Hand, ScanReady}
 use Rattle.blocks.specs.Parts.{Leaves}
 use Rattle.blocks.proofs.Stack.{Goal}
-use Rattle.blocks.proofs.Walking.{Lists, Slices, Walk, Scanning, few-entered, entered-room, at-new, at-old}
+use Rattle.blocks.proofs.Walking.{Lists, Walk, Scanning, few-entered, entered-room, at-new, at-old}
 use Rattle.blocks.proofs.Turns.{turn-enter, turn-again, turn-on, child-below, open-new, on-sum}
 
 -- ---- the step on top

@@ -4,3 +4,7 @@ pub mod Walking
 pub mod Turns
 pub mod Whole
 pub mod Arms
+pub mod Totals
+pub mod Placing
+pub mod Children
+pub mod Reversing

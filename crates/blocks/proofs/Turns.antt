@@ -9,14 +9,14 @@ use lib.ListN.{length, getD, set}
 use lib.Seq.{getD-set-same, getD-set-other}
 use Rattle.graph.specs.Lists.{Mem}
 use Rattle.graph.specs.Matchings.{Row, Col}
-use Rattle.graph.specs.Walks.{Walked, enter, finish}
+use Rattle.graph.specs.Walks.{enter, finish}
 use Rattle.graph.proofs.Lists.{getD-mem}
 use Rattle.matching.specs.Parts.{colAt, OpenPlace, Advance, back, down}
 use Rattle.matching.proofs.Stamps.{kept-set}
 use Rattle.blocks.specs.Parts.{Leaves}
 use Rattle.blocks.proofs.Held.{last-first-more, stamped-more}
 use Rattle.blocks.proofs.Stack.{Goal, Top, ret-agree, top-past, top-end, step-into}
-use Rattle.blocks.proofs.Walking.{Lists, Setting, Slices, entering, returning, Walk, Scanning}
+use Rattle.blocks.proofs.Walking.{Lists, entering, returning, Walk, Scanning}
 use Rattle.blocks.proofs.Walking.{few-entered, entered-room, at-new, at-old}
 
 -- ---- the column on top

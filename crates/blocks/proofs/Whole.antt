@@ -4,11 +4,11 @@ use mathlib.Core.Path.{_≡_, refl, sym, ap, _∙_, subst}
 use mathlib.Core.List.{List, [], _∷_, List·Memᴰ·cases-cons, List·Memᴰ·not-nil, Memᴰ·of-map}
 use mathlib.Core.Logic.{⊎-elim}
 use native.Mathlib.Omega.{arith}
-use lib.ListN.{length, getD, set, drop, length-set}
+use lib.ListN.{getD, set, drop, length-set}
 use lib.Seq.{getD-set-same, drop-set-lt}
 use Rattle.graph.specs.Lists.{Mem}
 use Rattle.graph.specs.Matchings.{Row, Col, Pattern, Inside, partner}
-use Rattle.graph.specs.Walks.{Walked, enter, finish, visit}
+use Rattle.graph.specs.Walks.{Walked, enter, visit}
 use Rattle.graph.specs.Blocks.{targets}
 use Rattle.graph.proofs.Lists.{left-le}
 use Rattle.graph.proofs.Walks.{Child, visits}

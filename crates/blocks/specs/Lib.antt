@@ -1,2 +1,3 @@
 pub mod Walk
+pub mod Reverse
 pub mod Parts
