@@ -8,3 +8,4 @@ pub mod Totals
 pub mod Placing
 pub mod Children
 pub mod Reversing
+pub mod Backward
