@@ -8,6 +8,7 @@ use lib.ListN.{length, getD, take, drop}
 use lib.Seq.{slice, getD-take, length-take-le, take-take}
 use Rattle.graph.specs.Lists.{Mem, elem, range}
 use Rattle.graph.specs.Matchings.{Row, Col, Pattern, Inside, partner}
+use Rattle.graph.specs.Permutations.{Inverse}
 use Rattle.graph.specs.Blocks.{targets, parents}
 use Rattle.graph.proofs.Edits.{edited-same, edited-other}
 use Rattle.graph.proofs.Lists.{elem-mem, keep-only, range-is}
@@ -15,7 +16,7 @@ use Rattle.sparse.specs.Limits.{maxSize, maxEntries}
 use Rattle.sparse.specs.Matrix.{column, columnOr, Shaped}
 use Rattle.sparse.proofs.Matrix.{column-end, column-beyond}
 use Rattle.matching.proofs.Ready.{short-or}
-use Rattle.blocks.specs.Reverse.{entries, Reversible, Inverse, ReverseRoom, Reversed}
+use Rattle.blocks.specs.Reverse.{entries, Reversible, ReverseRoom, Reversed}
 use Rattle.blocks.proofs.Totals.{targets-low}
 
 -- rows taken through the inverse and the matching are the columns themselves
@@ -23,7 +24,7 @@ back-again : (n : ℕ) (m : List Col) (inv : List Row) → Inverse n m inv → (
     → map (partner m) (map (partner inv) cs) ≡ cs
 back-again n m inv I [] low = refl
 back-again n m inv I (c ∷ cs) low =
-    ap (λ y. y ∷ map (partner m) (map (partner inv) cs)) (I .back c (low c (List·Memᴰ·head refl)) .1)
+    ap (λ y. y ∷ map (partner m) (map (partner inv) cs)) (I .back-and-there c (low c (List·Memᴰ·head refl)))
     ∙ ap (λ y. c ∷ y) (back-again n m inv I cs (λ d i. low d (List·Memᴰ·tail i)))
 
 -- a parent of column d is below n and has d as a child
@@ -119,7 +120,7 @@ pub back-inside : {n : ℕ} {col : Pattern} {m : List Col} {inv : List Row} {sta
 back-inside {n} {col} {m} {inv} e none small R I room T = record {
   row-below = λ d r i.
       let t = Memᴰ·of-map (partner inv) (parents n (targets col m) d) (subst (λ y. Mem r y) (back-column e none small R room T d) i) in
-      subst (λ y. y < n) (t .2) (I .back (t .0) (parent-is n (targets col m) d (t .0) (t .1) .0) .0);
+      subst (λ y. y < n) (t .2) (I .back-below (t .0) (parent-is n (targets col m) d (t .0) (t .1) .0));
   col-below = λ d r i.
       let t = Memᴰ·of-map (partner inv) (parents n (targets col m) d) (subst (λ y. Mem r y) (back-column e none small R room T d) i) in
       targets-low R (t .0) d (parent-is n (targets col m) d (t .0) (t .1) .1);

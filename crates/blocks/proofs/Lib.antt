@@ -9,3 +9,4 @@ pub mod Placing
 pub mod Children
 pub mod Reversing
 pub mod Backward
+pub mod Entries
