@@ -1,5 +1,4 @@
 // The depth-first walk from one column, which both walks of the block form make, each over its own graph.
-ghost use mathlib.Core.Path.{_≡_};
 ghost use Prim.Native.Nat.{_<_};
 ghost use lib.ListN.{length};
 ghost use Rattle.sparse.specs.Limits.{maxSize};
