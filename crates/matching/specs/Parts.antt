@@ -1,5 +1,5 @@
 -- What the parts of the matching say to one another: where a scan of a column's rows stops, how a search goes on from there,
--- and how all of them end. No public contract cites these.
+-- and how all of them end. Scans and steps serve the walks of the block form too.
 use Prim.Native.Nat.{ℕ, _+_, _≤_, _<_}
 use mathlib.Core.Path.{_≡_}
 use mathlib.Core.Logic.{_≢_}

@@ -1,0 +1,12 @@
+pub mod Held
+pub mod Stack
+pub mod Walking
+pub mod Turns
+pub mod Whole
+pub mod Arms
+pub mod Totals
+pub mod Placing
+pub mod Children
+pub mod Reversing
+pub mod Backward
+pub mod Entries
