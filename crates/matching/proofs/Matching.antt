@@ -1,11 +1,13 @@
 -- The matching rule decides: it ends with a perfect matching, or with a Hall set where there is none.
 use Prim.Native.Nat.{ℕ, zero, suc, _+_, _≤_, _<_}
 use mathlib.Core.Path.{_≡_, refl}
-use mathlib.Core.Logic.{⊎-elim}
+use mathlib.Core.Logic.{_↔_, ⊎-elim}
 use mathlib.Core.List.{List, [], List·Memᴰ·head}
 use native.Mathlib.Nat.{eq-or-lt-of-le}
 use native.Mathlib.Omega.{arith}
 use lib.ListN.{length, replicate, length-replicate, getD-replicate}
+use Rattle.graph.specs.Hall.{HallSet}
+use Rattle.graph.specs.Lists.{Mem, elem}
 use Rattle.graph.specs.Matchings.{Row, Col, Pattern, Inside, Perfect, Partial, partner}
 use Rattle.graph.specs.Paths.{Ending, failed, found, augment}
 use Rattle.graph.proofs.Matchings.{Matched, Unmatched, full-perfect}
@@ -13,10 +15,17 @@ use Rattle.graph.proofs.Hall.{hall-set-refuses}
 use Rattle.graph.proofs.Paths.{augmented}
 use Rattle.graph.proofs.Search.{Visit, visit-keeps, visit-found, visit-refuses}
 use Rattle.sparse.specs.Limits.{none}
-use Rattle.matching.specs.Matching.{search, Verdict, accepted, refused, matchFrom, matching, Deficient, Decides}
+use Rattle.matching.specs.Matching.{search, Verdict, accepted, refused, matchFrom, matching, Matchable}
 use Rattle.matching.proofs.Searching.{search-visits, visited-below}
 
 -- ---- between two searches
+
+-- column c is among the visited, which are columns below n and a Hall set
+pub record Deficient (n : ℕ) (col : Pattern) (c : Col) (visited : List Col) : Type 0 where
+  pub below : c < n
+  pub among : Mem c visited
+  pub visited-below : (d : Col) → Mem d visited → d < n
+  pub hall-set : HallSet n col (λ d. elem d visited)
 
 -- m is a matching of n rows in which the columns before c have a row, and the others none
 pub record Begun (n : ℕ) (col : Pattern) (c : Col) (m : List Col) : Type 0 where
@@ -82,6 +91,14 @@ unfolding matchFrom
 match-failed n col k c m f = rw (f, matchFrom)
 
 -- ---- the verdict
+
+-- accepted exactly if a perfect matching exists, and then with one; refused exactly if none exists, and then with a Hall set
+pub record Decides (n : ℕ) (col : Pattern) (v : Verdict) : Type 0 where
+  pub accepted-exactly : ((m : List Col) × (v ≡ accepted m)) ↔ Matchable n col
+  pub sized : (m : List Col) → v ≡ accepted m → length m ≡ n
+  pub perfect : (m : List Col) → v ≡ accepted m → Perfect n col (partner m)
+  pub refused-exactly : ((c : Col) × (visited : List Col) × (v ≡ refused c visited)) ↔ (¬ Matchable n col)
+  pub deficient : (c : Col) (visited : List Col) → v ≡ refused c visited → Deficient n col c visited
 
 -- accepted with a perfect matching of n rows, or refused with a Hall set
 abbrev Right : ℕ → Pattern → Verdict → Type 0

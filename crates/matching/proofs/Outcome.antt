@@ -27,14 +27,14 @@ use Rattle.sparse.proofs.Early.{Early, early-passed, early-passes, early-number
 use Rattle.sparse.proofs.Matrix.{inside, column-once}
 use Rattle.sparse.proofs.Passing.{repeats-pass}
 use Rattle.sparse.proofs.Room.{short-more, short-last}
-use Rattle.matching.specs.Matching.{Verdict, accepted, refused, matching, Matchable, Deficient, Decides}
+use Rattle.matching.specs.Matching.{Verdict, accepted, refused, matching}
 use Rattle.matching.specs.Outcome.{Lent, lent, matchingNeed, buffers, cleared, Outcome, ended, numberOf, placeOf, unmatchable}
 use Rattle.matching.specs.Outcome.{marksOf}
 use Rattle.matching.specs.Outcome.{handedOut, outcome, Given, HallMarks, Means}
 use Rattle.matching.specs.Parts.{Fresh, EndsAt, SameBeyond}
 use Rattle.matching.specs.declared.diagonal.MatchingAnswer.{MatchingAnswer}
 use Rattle.matching.specs.declared.diagonal.MatchingAnswer.the-variants.{Accepted, Refused}
-use Rattle.matching.proofs.Matching.{matching-decides}
+use Rattle.matching.proofs.Matching.{Deficient, Decides, matching-decides}
 
 -- ---- what passed checks say
 

@@ -1,16 +1,17 @@
--- The matching of rows to columns: the rule that finds it, and what its answer means.
-use Prim.Native.Nat.{ℕ, zero, suc, _<_}
-use mathlib.Core.Path.{_≡_}
+-- The matching of rows to columns: whether there is one, and the rule that finds one.
+use Prim.Native.Nat.{ℕ, zero, suc}
 use mathlib.Core.Bool.{true, false}
-use mathlib.Core.Logic.{_↔_}
 use mathlib.Core.List.{List, [], _∷_}
 use lib.Dec.{leb}
-use lib.ListN.{length, replicate}
-use Rattle.graph.specs.Lists.{Mem, elem, keep}
+use lib.ListN.{replicate}
+use Rattle.graph.specs.Lists.{elem, keep}
 use Rattle.graph.specs.Matchings.{Row, Col, Pattern, Perfect, partner}
-use Rattle.graph.specs.Hall.{HallSet}
 use Rattle.graph.specs.Paths.{Ending, failed, found, augment}
 use Rattle.sparse.specs.Limits.{none}
+
+-- a perfect matching exists
+abbrev pub Matchable : ℕ → Pattern → Type 0
+Matchable n col = (f : Row → Col) × Perfect n col f
 
 -- the free rows of a list, in order: a row is free where the matching m, a list by row, holds n or more
 abbrev pub freeRows : ℕ → List Col → List Row → List Row
@@ -56,24 +57,3 @@ matchFrom n col (suc k) c m = let t = search n col m n [] c in elim (t .ending) 
 -- searches from columns 0 to n - 1, starting with every row free
 unfoldable pub matching : ℕ → Pattern → Verdict
 matching n col = matchFrom n col n 0 (replicate n none)
-
--- ---- the meaning
-
--- a perfect matching exists
-abbrev pub Matchable : ℕ → Pattern → Type 0
-Matchable n col = (f : Row → Col) × Perfect n col f
-
--- column c is among the visited, which are columns below n and a Hall set
-pub record Deficient (n : ℕ) (col : Pattern) (c : Col) (visited : List Col) : Type 0 where
-  pub below : c < n
-  pub among : Mem c visited
-  pub visited-below : (d : Col) → Mem d visited → d < n
-  pub hall-set : HallSet n col (λ d. elem d visited)
-
--- accepted exactly if a perfect matching exists, and then with one; refused exactly if none exists, and then with a Hall set
-pub record Decides (n : ℕ) (col : Pattern) (v : Verdict) : Type 0 where
-  pub accepted-exactly : ((m : List Col) × (v ≡ accepted m)) ↔ Matchable n col
-  pub sized : (m : List Col) → v ≡ accepted m → length m ≡ n
-  pub perfect : (m : List Col) → v ≡ accepted m → Perfect n col (partner m)
-  pub refused-exactly : ((c : Col) × (visited : List Col) × (v ≡ refused c visited)) ↔ (¬ Matchable n col)
-  pub deficient : (c : Col) (visited : List Col) → v ≡ refused c visited → Deficient n col c visited

@@ -1,5 +1,5 @@
 -- The entry `find_diag_matching`: what it is lent, what it leaves in every buffer for any input, and what that means.
-use Prim.Native.Nat.{ℕ, suc, _<_}
+use Prim.Native.Nat.{ℕ, _<_}
 use mathlib.Core.Path.{_≡_}
 use mathlib.Core.List.{List, [], _∷_}
 use mathlib.Core.Logic.{_↔_, _⊎_}
