@@ -2,6 +2,8 @@
 ghost use Prim.Native.Nat.{_≤_};
 ghost use lib.ListN.{length};
 
+mod case;
+mod diagonal;
 mod lists;
 mod order;
 mod text;
@@ -41,6 +43,7 @@ fn replay_case(kind: u32, numbers: &[u32]) -> Replayed
 {
     match kind {
         1 => order::replay_case(numbers),
+        2 => diagonal::replay_case(numbers),
         _ => malformed(),
     }
 }

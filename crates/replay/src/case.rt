@@ -1,0 +1,80 @@
+// What a case of every kind begins with: size, entries, the starts, the rows, answer, place. The lists of its kind follow.
+ghost use Prim.Native.Nat.{_+_, _≤_};
+use super::lists::number_or;
+use super::lists::part;
+use sparse::checks::or;
+
+// The program's own limits.
+const MAX_SIZE: u32 = 64;
+
+const MAX_ENTRIES: u32 = 4096;
+
+// Of each lent buffer something lies beyond the largest size.
+pub const LENT: usize = 72;
+
+// The stored numbers of a case, and the place after them, where its lists begin. All are 0 where it is over a limit.
+pub struct Case {
+    pub is_small: bool,
+    pub size: u32,
+    pub entries: u32,
+    pub answer: u32,
+    pub place: u32,
+    pub lists: usize,
+}
+
+fn too_large() -> Case
+    ensures { λ r. ⌜ r .lists ≤ 64 + 4096 + 5 ⌝ }
+{
+    Case {
+        is_small: false,
+        size: 0,
+        entries: 0,
+        answer: 0,
+        place: 0,
+        lists: 0,
+    }
+}
+
+pub fn read_case(numbers: &[u32]) -> Case
+    ensures { λ r. ⌜ r .lists ≤ 64 + 4096 + 5 ⌝ }
+{
+    let size = number_or(numbers, 0, 0);
+    let entries = number_or(numbers, 1, 0);
+    if MAX_SIZE < size {
+        return too_large();
+    }
+    if MAX_ENTRIES < entries {
+        return too_large();
+    }
+    let at = 3 + size as usize + entries as usize;
+    Case {
+        is_small: true,
+        size,
+        entries,
+        answer: number_or(numbers, at, 0),
+        place: number_or(numbers, at + 1, 0),
+        lists: at + 2,
+    }
+}
+
+pub fn starts(numbers: &[u32], case: Case) -> &[u32] {
+    part(numbers, 2, case.size as usize + 1)
+}
+
+pub fn rows(numbers: &[u32], case: Case) -> &[u32] {
+    part(numbers, 3 + case.size as usize, case.entries as usize)
+}
+
+// Whether the stored answer or its place is another.
+pub fn is_other(case: Case, answer: u32, place: u32) -> bool {
+    or(case.answer != answer, case.place != place)
+}
+
+// How many numbers of each workspace slice become zero. Refusals 1, 2, 5 and 3 leave every buffer as it is.
+pub fn cleared(case: Case) -> usize {
+    let answer = case.answer;
+    match answer {
+        1 | 2 | 3 | 5 => 0,
+        _ => case.size as usize,
+    }
+}
