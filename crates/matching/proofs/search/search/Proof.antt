@@ -185,7 +185,17 @@ put-by-column-requires-2 c κs =
 put-by-row-requires : tie.Need-put-by-row-requires Inv-loop μ-loop Inv-dfs-loop μ-dfs-loop
 put-by-row-requires c κs =
     let at-after-row-at = c .before .before .before .before .before .before .before .before in
-    row at-after-row-at
+    let at-loop = c .before .before .before .before .before .before .before .before .before .before in
+    let at-after-column-at = at-loop .before .before .before .before .before .before .before .before .before .before .before in
+    let at-dfs-loop = at-after-column-at .before .before .before in
+    omega (
+      arith,
+      row at-after-row-at,
+      low at-after-column-at,
+      at-dfs-loop .dfs-loop .inv .slices .setting .long,
+      at-dfs-loop .dfs-loop .inv .slices .sized,
+      ap length (at-loop .loop .inv .matching-same),
+    )
 
 dfs-loop-less : tie.Need-dfs-loop-less Inv-loop μ-loop Inv-dfs-loop μ-dfs-loop
 dfs-loop-less c =
