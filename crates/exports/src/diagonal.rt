@@ -18,12 +18,16 @@ pub extern "C" fn dechvorim_find_diag_matching(
     place: &mut u32,
 ) -> u32
     ensures number { λ r. ⌜ r ≡ numberOf (outcome size (now (starts .entry)) (now (rows .entry))
-        (lent (now (visited .entry)) (now (cheap .entry)) (now (scol .entry)) (now (sat .entry)) (now (row2col .entry)) (now (hall .entry))) .answer) ⌝ }
+        (lent (now (visited .entry)) (now (cheap .entry)) (now (scol .entry)) (now (sat .entry))
+        (now (row2col .entry)) (now (hall .entry))) .answer) ⌝ }
     ensures place { λ _. ⌜ now (place .exit) ≡ placeOf (outcome size (now (starts .entry)) (now (rows .entry))
-        (lent (now (visited .entry)) (now (cheap .entry)) (now (scol .entry)) (now (sat .entry)) (now (row2col .entry)) (now (hall .entry))) .answer) ⌝ }
-    ensures buffers { λ _. ⌜ lent (now (visited .exit)) (now (cheap .exit)) (now (scol .exit)) (now (sat .exit)) (now (row2col .exit)) (now (hall .exit))
+        (lent (now (visited .entry)) (now (cheap .entry)) (now (scol .entry)) (now (sat .entry))
+        (now (row2col .entry)) (now (hall .entry))) .answer) ⌝ }
+    ensures buffers { λ _. ⌜ lent (now (visited .exit)) (now (cheap .exit)) (now (scol .exit)) (now (sat .exit))
+        (now (row2col .exit)) (now (hall .exit))
         ≡ outcome size (now (starts .entry)) (now (rows .entry))
-        (lent (now (visited .entry)) (now (cheap .entry)) (now (scol .entry)) (now (sat .entry)) (now (row2col .entry)) (now (hall .entry))) .after ⌝ }
+        (lent (now (visited .entry)) (now (cheap .entry)) (now (scol .entry)) (now (sat .entry))
+        (now (row2col .entry)) (now (hall .entry))) .after ⌝ }
 {
     let answer = matching::find_diag_matching(
         size,
