@@ -25,3 +25,12 @@ pub struct Refusal {
     pub number: u32,
     pub place: u32,
 }
+
+// A call of the archive, in which every slice is said once and passes as pointer and length.
+macro_rules! call_archive {
+    ($entry:ident: $size:expr, read [$($read:ident),*], lent [$($lent:ident),*], written [$($written:ident),*]) => {
+        $entry($size, $($read.as_ptr(), $read.len(),)* $($lent.as_mut_ptr(), $lent.len(),)* $(&mut $written),*)
+    };
+}
+
+pub(crate) use call_archive;

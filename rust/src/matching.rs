@@ -1,4 +1,5 @@
 //! The matching of rows to columns.
+use crate::kinds::call_archive;
 use crate::{Column, OriginalRow, Pattern, Refusal};
 
 extern "C" {
@@ -88,26 +89,10 @@ pub fn find_diag_matching(pattern: Pattern<'_>, lent: MatchingLent<'_>) -> Match
     // Unsafe: a call into the archive, which is handed raw slices.
     // Sound: each is a live slice, those written to are borrowed for this call alone, and the entry is proved for any input.
     let number = unsafe {
-        dechvorim_find_diag_matching(
-            size,
-            starts.as_ptr(),
-            starts.len(),
-            rows.as_ptr(),
-            rows.len(),
-            visited.as_mut_ptr(),
-            visited.len(),
-            cheap.as_mut_ptr(),
-            cheap.len(),
-            scol.as_mut_ptr(),
-            scol.len(),
-            sat.as_mut_ptr(),
-            sat.len(),
-            row2col.as_mut_ptr(),
-            row2col.len(),
-            hall.as_mut_ptr(),
-            hall.len(),
-            &mut place,
-        )
+        call_archive!(dechvorim_find_diag_matching: size,
+            read [starts, rows],
+            lent [visited, cheap, scol, sat, row2col, hall],
+            written [place])
     };
     MatchingAnswer::of(number, place)
 }

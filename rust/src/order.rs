@@ -1,4 +1,5 @@
 //! The order of columns by length.
+use crate::kinds::call_archive;
 use crate::{Column, OriginalRow, Pattern, Refusal};
 
 extern "C" {
@@ -84,26 +85,10 @@ pub fn order_simple(pattern: Pattern<'_>, lent: OrderLent<'_>) -> OrderAnswer {
     // Unsafe: a call into the archive, which is handed raw slices.
     // Sound: each is a live slice, those written to are borrowed for this call alone, and the entry is proved for any input.
     let number = unsafe {
-        dechvorim_order_simple(
-            size,
-            starts.as_ptr(),
-            starts.len(),
-            rows.as_ptr(),
-            rows.len(),
-            score2head.as_mut_ptr(),
-            score2head.len(),
-            prev.as_mut_ptr(),
-            prev.len(),
-            next.as_mut_ptr(),
-            next.len(),
-            marks.as_mut_ptr(),
-            marks.len(),
-            new2orig.as_mut_ptr(),
-            new2orig.len(),
-            orig2new.as_mut_ptr(),
-            orig2new.len(),
-            &mut place,
-        )
+        call_archive!(dechvorim_order_simple: size,
+            read [starts, rows],
+            lent [score2head, prev, next, marks, new2orig, orig2new],
+            written [place])
     };
     OrderAnswer::of(number, place)
 }

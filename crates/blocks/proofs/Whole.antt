@@ -29,7 +29,7 @@ goalOf n col m c es fs e f = record {
 -- ---- the start
 
 -- the columns that a column below n points to are below n
-targets-below : {n : ℕ} {col : Pattern} (m : List Col) → Inside n col → ((r : Row) → r < n → partner m r < n)
+pub targets-below : {n : ℕ} {col : Pattern} (m : List Col) → Inside n col → ((r : Row) → r < n → partner m r < n)
     → (c d : Col) → Child (targets col m) c d → d < n
 targets-below {n} {col} m inside matched c d i =
     let t = Memᴰ·of-map (partner m) (col c) i in

@@ -1,3 +1,7 @@
 pub mod Walk
+pub mod Cut
 pub mod Reverse
 pub mod Parts
+pub mod Form
+pub mod Outcome
+pub mod FormSamples

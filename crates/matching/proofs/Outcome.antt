@@ -178,7 +178,7 @@ mark-bit true = inl refl
 mark-bit false = inr refl
 
 -- the marks of the visited columns are those of a Hall set
-hall-marks : {n : ℕ} {col : Pattern} {c : Col} {seen : List Col} (xs : List ℕ) → Deficient n col c seen
+pub hall-marks : {n : ℕ} {col : Pattern} {c : Col} {seen : List Col} (xs : List ℕ) → Deficient n col c seen
     → HallMarks n col c (filled (marksOf n seen) xs)
 unfolding marksOf
 hall-marks {n} {col} {c} {seen} xs D = record {

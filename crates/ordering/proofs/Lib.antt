@@ -10,7 +10,6 @@ pub mod Beyond
 pub mod ByLength
 pub mod InRow
 pub mod OrderLoops
-pub mod OrderInverse
 pub mod OrderWhole
 pub mod OrderChecks
 pub mod OrderOutcome

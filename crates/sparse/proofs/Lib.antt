@@ -9,3 +9,4 @@ pub mod Scans
 pub mod Tallies
 pub mod Passing
 pub mod Early
+pub mod Inverses

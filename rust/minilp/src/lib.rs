@@ -36,6 +36,12 @@ pub struct Permutation {
     pub orig2new: Vec<usize>,
 }
 
+/// The Rust's `BlockDiagForm`.
+pub struct BlockForm {
+    pub row2col: Vec<usize>,
+    pub block_cols: Vec<Vec<usize>>,
+}
+
 /// The Rust's `order_simple`. It panics on an empty column.
 pub fn order_simple(size: usize, columns: &Columns) -> Permutation {
     let perm = ordering::order_simple(size, |c| columns.col(c));
@@ -45,4 +51,10 @@ pub fn order_simple(size: usize, columns: &Columns) -> Permutation {
 /// The Rust's `find_diag_matching`: the column of each row, or none.
 pub fn find_diag_matching(size: usize, columns: &Columns) -> Option<Vec<usize>> {
     ordering::find_diag_matching(size, |c| columns.col(c))
+}
+
+/// The Rust's `find_block_diag_form`. It panics where there is no perfect matching.
+pub fn find_block_diag_form(size: usize, columns: &Columns) -> BlockForm {
+    let form = ordering::find_block_diag_form(size, |c| columns.col(c));
+    BlockForm { row2col: form.row2col, block_cols: form.block_cols }
 }

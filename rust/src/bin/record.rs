@@ -4,14 +4,15 @@ use dechvorim::driver::ENTRIES;
 const SEED: u64 = 19_580_101;
 
 const HEADER: &str = "# Made by rust/src/bin/record.rs. Each line is a case: its kind, the pattern, then the answer and its place \
-    and, where accepted, the lists that the unchanged Rust gave. The Rust checks nothing, panics on an empty column, and of a matching \
-    that does not exist says only so. Refusals and their places are therefore a reading of the table of refusals; and the column whose \
-    search failed, with the marks of the columns that it visited, is a reading of the matching's rule in the driver's own Rust. \
-    Other refused cases have no lists. Only the numbers count.";
+    and, where accepted, the lists that the unchanged Rust gave. The Rust checks nothing, panics on an empty column, of a matching \
+    that does not exist says only so, and has no blocks then but a panic. Refusals and their places are therefore a reading of the \
+    table of refusals; and the column whose search failed, with the marks of the columns that it visited, is a reading of the \
+    matching's rule in the driver's own Rust. Other refused cases have no lists. Only the numbers count.";
 
-/// What the replay has room for.
-const MAX_BYTES: usize = 120_000;
-const MAX_NUMBERS: usize = 1_000;
+/// What the replay has room for: in the text, in a line.
+const MAX_BYTES: usize = 131_072;
+const MAX_NUMBERS: usize = 65_536;
+const MAX_LINE: usize = 1_000;
 
 fn main() {
     let mut text = format!("{HEADER}\n");
@@ -19,11 +20,15 @@ fn main() {
     for entry in ENTRIES {
         for case in (entry.record)(SEED) {
             let line = format!("{} {} {case}\n", entry.kind, entry.name);
-            let numbers = line.split_whitespace().filter(|word| word.parse::<u32>().is_ok()).count();
-            assert!(numbers <= MAX_NUMBERS, "a line of {numbers} numbers");
+            assert!(numbers(&line) <= MAX_LINE, "a line of {} numbers", numbers(&line));
             text += &line;
         }
     }
     assert!(text.len() < MAX_BYTES, "the record has {} bytes", text.len());
+    assert!(numbers(&text) < MAX_NUMBERS, "the record has {} numbers", numbers(&text));
     print!("{text}");
+}
+
+fn numbers(text: &str) -> usize {
+    text.split_whitespace().filter(|word| word.parse::<u32>().is_ok()).count()
 }

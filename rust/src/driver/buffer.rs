@@ -58,13 +58,6 @@ impl<T: Copy + PartialEq + Debug> Buffer<T> {
         &mut self.cells[EDGE..EDGE + self.len]
     }
 
-    /// These values at the front, the rest as it was.
-    pub fn fill(&mut self, values: impl Iterator<Item = T>) {
-        for (cell, value) in self.lent().iter_mut().zip(values) {
-            *cell = value;
-        }
-    }
-
     /// The first number that is not as expected, over the whole length and the edges.
     pub fn compare(&self, name: &str, expected: &Buffer<T>) -> Result<(), String> {
         let pairs = self.cells.iter().zip(&expected.cells);

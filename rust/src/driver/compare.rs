@@ -13,6 +13,7 @@ use std::fmt;
 pub type Check = fn(&Input, Room, &mut Xorshift) -> Result<u32, String>;
 
 /// A kind of valid pattern that an entry asks for, of any size.
+#[derive(Clone, Copy)]
 pub struct Kind {
     pub name: &'static str,
     pub make: fn(u32, &mut Xorshift) -> Input,

@@ -16,6 +16,9 @@ pub const KINDS: [Kind; 7] = [
     Kind { name: "some columns share one row too few", make: crowded },
 ];
 
+/// A kind with many blocks of more than one column, which the others seldom have.
+pub const RINGS: Kind = Kind { name: "rings of columns, each a block, with entries to later ones, permuted", make: rings };
+
 /// The columns of a pattern, each a list of rows.
 type Columns = Vec<Vec<u32>>;
 
@@ -119,6 +122,26 @@ fn any_band(size: u32, random: &mut Xorshift) -> Input {
     if random.one_in(3) && size > 0 {
         columns[0].pop();
     }
+    Input::from_columns(&renamed(columns, random))
+}
+
+// Rings, one after the other. A column has its own row, the next one's in its ring, and some from the ring's beginning on.
+fn rings(size: u32, random: &mut Xorshift) -> Input {
+    let most = if random.one_in(2) { 4 } else { size };
+    let more = random.below(3);
+    let (mut columns, mut lo) = (vec![], 0);
+    while lo < size {
+        let hi = lo + random.between(1, most.min(size - lo));
+        for c in lo..hi {
+            let mut rows = vec![c, if c + 1 < hi { c + 1 } else { lo }];
+            rows.extend((0..more).map(|_| random.between(lo, size - 1)));
+            rows.sort();
+            rows.dedup();
+            columns.push(shuffled(&rows, random));
+        }
+        lo = hi;
+    }
+    let columns = shuffled(&columns, random);
     Input::from_columns(&renamed(columns, random))
 }
 

@@ -2,10 +2,13 @@
 //!
 //! An entry of the library is one module here, which ends in an [`Entry`], and one line in [`ENTRIES`].
 pub mod bench;
+pub mod blocks;
 pub mod buffer;
 pub mod compare;
+pub mod components;
 pub mod damage;
 pub mod input;
+pub mod lent;
 pub mod matchable;
 pub mod matching;
 pub mod order;
@@ -16,6 +19,7 @@ pub mod samples;
 pub mod searches;
 pub mod smallest;
 pub mod table;
+pub mod verdict;
 
 /// What the three programs do with an entry.
 pub struct Entry {
@@ -32,4 +36,4 @@ pub struct Entry {
     pub bench: fn(u64) -> Vec<bench::Timing>,
 }
 
-pub const ENTRIES: [Entry; 2] = [order::ENTRY, matching::ENTRY];
+pub const ENTRIES: [Entry; 3] = [order::ENTRY, matching::ENTRY, blocks::ENTRY];

@@ -40,11 +40,11 @@ pub fn patterns(seed: u64) -> Vec<Input> {
     inputs
 }
 
-/// Some two hundred and fifty inputs: the small ones, some of each kind, then damaged ones.
-pub fn of_kinds(kinds: &[Kind], seed: u64) -> Vec<Input> {
+/// The small inputs, then so many of the kinds in turn, up to this size, then damaged ones: some hundred and forty and those of the kinds.
+pub fn of_kinds(kinds: &[Kind], count: usize, largest: u32, seed: u64) -> Vec<Input> {
     let mut rng = Xorshift::new(seed);
     let mut inputs = small();
-    inputs.extend((0..110).map(|i| (kinds[i % kinds.len()].make)(rng.between(3, 20), &mut rng)));
+    inputs.extend((0..count).map(|i| (kinds[i % kinds.len()].make)(rng.between(3, largest), &mut rng)));
     inputs.extend((0..48).map(|i| damaged(FAULTS[i % FAULTS.len()], &mut rng)));
     inputs
 }

@@ -1,7 +1,7 @@
 //! A plain reading of the matching's rule in the project's scope document, written apart from the library and from the Rust:
 //! recursive, and looking at each list from its beginning. It says what the Rust does not: which search failed, and what it visited.
 use super::input::Input;
-use crate::Column;
+use crate::{Column, Refusal};
 use std::collections::BTreeSet;
 
 /// What the rule gives for a valid pattern.
@@ -16,6 +16,18 @@ pub struct Ruled {
 pub struct Failed {
     pub column: Column,
     pub visited: Vec<bool>,
+}
+
+impl Failed {
+    /// What the table gives for it.
+    pub fn refusal(&self) -> Refusal {
+        Refusal { number: 9, place: self.column.0 }
+    }
+
+    /// The marks of the visited columns.
+    pub fn marks(&self) -> impl Iterator<Item = u32> + '_ {
+        self.visited.iter().copied().map(u32::from)
+    }
 }
 
 struct Searches<'a> {
