@@ -10,12 +10,7 @@ pub mod Children
 pub mod Reversing
 pub mod Backward
 pub mod Entries
-pub mod FormRoom
 pub mod Stored
-pub mod FormOutcome
-pub mod FormSamples
 pub mod Passes
 pub mod Cutting
 pub mod Joined
-pub mod Matched
-pub mod ValidForm

@@ -3,5 +3,3 @@ pub mod Cut
 pub mod Reverse
 pub mod Parts
 pub mod Form
-pub mod Outcome
-pub mod FormSamples

@@ -1,9 +1,4 @@
-// The block triangular form of a matrix.
+// The blocks of a matrix under a perfect matching: its graph reversed, and walked twice.
 pub mod cut;
-pub mod entry;
-pub mod form;
 pub mod reverse;
 pub mod walk;
-
-pub use entry::find_block_diag_form;
-pub use form::BlockAnswer;

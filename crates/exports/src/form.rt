@@ -1,9 +1,9 @@
 // The block triangular form, for C. The number of blocks crosses beside the place.
 ghost use mathlib.Core.Path.{_≡_};
-ghost use Rattle.blocks.specs.Outcome.{lent, work, outputs, outcome, numberOf, placeOf, countOf};
-use blocks::BlockAnswer;
+ghost use Rattle.triangular.specs.Outcome.{lent, work, outputs, outcome, numberOf, placeOf, countOf};
+use triangular::BlockAnswer;
 
-// blocks::find_block_diag_form.
+// triangular::find_block_diag_form.
 #[no_mangle]
 pub extern "C" fn dechvorim_find_block_diag_form(
     size: u32,
@@ -44,7 +44,7 @@ pub extern "C" fn dechvorim_find_block_diag_form(
         (now (backstarts .entry)) (now (backrows .entry)) (now (scol .entry)) (now (sat .entry)))
         (outputs (now (row2col .entry)) (now (hall .entry)) (now (blockcols .entry)) (now (blockstarts .entry)))) .after ⌝ }
 {
-    let answer = blocks::find_block_diag_form(
+    let answer = triangular::find_block_diag_form(
         size,
         starts,
         rows,

@@ -1,12 +1,12 @@
 -- `dechvorim_find_block_diag_form` meets its contract: the outcome of the block form, taken apart.
 use mathlib.Core.Path.{sym, ap, _∙_}
-use Rattle.blocks.specs.Outcome.{Outcome, numberOf, placeOf, countOf}
+use Rattle.triangular.specs.Outcome.{Outcome, numberOf, placeOf, countOf}
 use borrow.Author.Needs.{needs}
 use Rattle.exports.proofs.form.dechvorim_find_block_diag_form.Statement.{statement}
 use Rattle.exports.proofs.form.dechvorim_find_block_diag_form.Tie as tie
 use Rattle.exports.proofs.form.dechvorim_find_block_diag_form.Reads as reads
 use Rattle.exports.proofs.form.dechvorim_find_block_diag_form.Lts as lts
-use Rattle.blocks.proofs.find_block_diag_form.Reads as find-block-diag-form-reads
+use Rattle.triangular.proofs.find_block_diag_form.Reads as find-block-diag-form-reads
 
 find-block-diag-form-requires : tie.Need-find-block-diag-form-requires
 find-block-diag-form-requires c κs = search needs

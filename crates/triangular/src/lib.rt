@@ -1,0 +1,6 @@
+// The lower block triangular form of a matrix.
+pub mod entry;
+pub mod form;
+
+pub use entry::find_block_diag_form;
+pub use form::BlockAnswer;
