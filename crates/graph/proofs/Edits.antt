@@ -12,7 +12,7 @@ use Rattle.graph.specs.Lists.{Mem}
 use Rattle.graph.specs.Counting.{preimage}
 use Rattle.graph.specs.Matchings.{Row, Col, Pattern, Entry, Inside, Perfect, Partial, partner}
 use Rattle.graph.specs.Paths.{Alternating, augment, failed, found}
-use Rattle.graph.specs.Edits.{edited}
+use Rattle.graph.specs.Edits.{edited, former, freed}
 use Rattle.graph.proofs.Matchings.{Matched, Unmatched, row-of, full-perfect}
 use Rattle.graph.proofs.Paths.{Augmented, augmented, augment-other, augment-last, path-agree, path-end, path-rows, path-free}
 use Rattle.graph.proofs.Search.{Visit, visit-found, Refused, visit-refuses}
@@ -26,14 +26,6 @@ pub edited-other : (col : Pattern) (c₀ : Col) (new : List Row) (c : Col) → c
 edited-other col c₀ new c h = rw (ne-eqb c c₀ h)
 
 -- ---- the matching with the former row of the column free
-
--- the row that matching m gives to column c₀
-abbrev pub former : ℕ → List Col → Col → Row
-former n m c₀ = preimage (partner m) n c₀
-
--- the matching with that row free: it gets the number x, which is n or more
-abbrev pub freed : ℕ → List Col → Col → Col → List Col
-freed n m c₀ x = set m (former n m c₀) x
 
 -- a perfect matching, a column to edit, and the number of a free row
 record Before (n : ℕ) (col : Pattern) (m : List Col) (c₀ x : Col) : Type 0 where
