@@ -1,0 +1,1 @@
+// A perfect matching kept over the edit of one column.
