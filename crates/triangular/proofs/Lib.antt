@@ -1,5 +1,5 @@
 pub mod Room
 pub mod Outcome
 pub mod Samples
-pub mod Matched
+pub mod UnderMatching
 pub mod Valid

@@ -30,7 +30,7 @@ use Rattle.matching.proofs.Matching.{Decides, matching-decides}
 use Rattle.matching.proofs.Outcome.{hall-marks}
 use Rattle.blocks.specs.Form.{columnsOf, blockStarts, StoredForm}
 use Rattle.triangular.specs.Outcome.{Work, Outputs, outputs, Lent, lent, buffers, cleared, formNeed, startsNeed, Outcome, ended}
-use Rattle.triangular.specs.Outcome.{numberOf, placeOf, passedOn, unmatchable, handedOut, outcome, Given, Means}
+use Rattle.triangular.specs.Outcome.{numberOf, placeOf, passedOn, unmatchable, handedOut, formed, outcome, Given, Means}
 use Rattle.blocks.specs.Cut.{HoldsBlocks}
 use Rattle.triangular.specs.declared.form.BlockAnswer.{BlockAnswer}
 use Rattle.triangular.specs.declared.form.BlockAnswer.the-variants.{Accepted, Refused}
@@ -64,22 +64,25 @@ pub early-outcome : (size : ℕ) (starts : List ℕ) (rows : List Row) (l : Lent
 unfolding outcome
 early-outcome size starts rows l r e = rw e
 
--- refused by 4: workspace and stack are zero
-pub repeat-outcome : (size : ℕ) (starts : List ℕ) (rows : List Row) (l : Lent) (r : Refusal)
+-- else what is formed, with workspace and stack zero
+pub formed-outcome : (size : ℕ) (starts : List ℕ) (rows : List Row) (l : Lent)
     → firstRefusal (early size starts rows (buffers size (length rows) l)) ≡ checked.Passed
-    → repeatedRow size starts rows ≡ checked.Refused r
-    → ended (Refused r) (lent (cleared size (length rows) (l .inner)) (l .outer)) ≡ outcome size starts rows l
+    → formed size starts rows (cleared size (length rows) (l .inner)) (l .outer) ≡ outcome size starts rows l
 unfolding outcome
-repeat-outcome size starts rows l r p e = rw (p, e)
+formed-outcome size starts rows l p = rw p
+
+-- refused by 4: no output has changed
+pub repeat-formed : (size : ℕ) (starts : List ℕ) (rows : List Row) (w : Work) (o : Outputs) (r : Refusal)
+    → repeatedRow size starts rows ≡ checked.Refused r → ended (Refused r) (lent w o) ≡ formed size starts rows w o
+unfolding formed
+repeat-formed size starts rows w o r e = rw e
 
 -- else the verdict is handed out
-pub verdict-outcome : (size : ℕ) (starts : List ℕ) (rows : List Row) (l : Lent)
-    → firstRefusal (early size starts rows (buffers size (length rows) l)) ≡ checked.Passed
+pub verdict-formed : (size : ℕ) (starts : List ℕ) (rows : List Row) (w : Work) (o : Outputs)
     → repeatedRow size starts rows ≡ checked.Passed
-    → handedOut size (column starts rows) (cleared size (length rows) (l .inner)) (l .outer) (matching size (column starts rows))
-    ≡ outcome size starts rows l
-unfolding outcome
-verdict-outcome size starts rows l p e = rw (p, e)
+    → handedOut size (column starts rows) w o (matching size (column starts rows)) ≡ formed size starts rows w o
+unfolding formed
+verdict-formed size starts rows w o e = rw e
 
 -- ---- what the matching hands on
 
@@ -177,14 +180,14 @@ refused-means size starts rows l after r never few = record {
   deficient = λ e. absurd (omega arith);
 }
 
-pub early-means : (size : ℕ) (starts : List ℕ) (rows : List Row) (l after : Lent) (r : Refusal)
+early-means : (size : ℕ) (starts : List ℕ) (rows : List Row) (l after : Lent) (r : Refusal)
     → firstRefusal (early size starts rows (buffers size (length rows) l)) ≡ checked.Refused r
     → Means size starts rows l after (Refused r)
 early-means size starts rows l after r e =
     refused-means size starts rows l after r (λ G. not-both _ r (given-early G) e)
     (early-number size starts rows (buffers size (length rows) l) r e)
 
-pub repeat-means : (size : ℕ) (starts : List ℕ) (rows : List Row) (l after : Lent) (r : Refusal)
+repeat-means : (size : ℕ) (starts : List ℕ) (rows : List Row) (l after : Lent) (r : Refusal)
     → repeatedRow size starts rows ≡ checked.Refused r → Means size starts rows l after (Refused r)
 repeat-means size starts rows l after r e =
     refused-means size starts rows l after r (λ G. not-both _ r (given-once G) e) (omega (arith, repeats-number size starts rows r e))
@@ -243,7 +246,7 @@ pub decides : {size : ℕ} {starts : List ℕ} {rows : List Row} {l : Lent} → 
 decides {size} {starts} {rows} G =
     matching-decides size (column starts rows) (inside (G .valid .shaped) (G .valid .below)) (small-none (G .valid .shaped .small))
 
-pub verdict-means : (size : ℕ) (starts : List ℕ) (rows : List Row) (l after : Lent) (w : Work) (answer : BlockAnswer)
+verdict-means : (size : ℕ) (starts : List ℕ) (rows : List Row) (l after : Lent) (w : Work) (answer : BlockAnswer)
     → firstRefusal (early size starts rows (buffers size (length rows) l)) ≡ checked.Passed
     → repeatedRow size starts rows ≡ checked.Passed
     → ended answer after ≡ handedOut size (column starts rows) w (l .outer) (matching size (column starts rows))
@@ -254,6 +257,31 @@ verdict-means size starts rows l after w answer p e f =
     let a : after ≡ handedOut size (column starts rows) w (l .outer) v .after = ap (λ (o : Outcome). o .after) f in
     let b : answer ≡ handedOut size (column starts rows) w (l .outer) v .answer = ap (λ (o : Outcome). o .answer) f in
     rw (a, b) (handed-means size starts rows l w v G (decides G))
+
+-- the outcome has the meaning
+pub outcome-means : (size : ℕ) (starts : List ℕ) (rows : List Row) (l after : Lent) (answer : BlockAnswer)
+    → ended answer after ≡ outcome size starts rows l → Means size starts rows l after answer
+outcome-means size starts rows l after answer e = first (firstRefusal (early size starts rows (buffers size (length rows) l))) refl
+  where
+    w : Work
+    w = cleared size (length rows) (l .inner)
+
+    second : firstRefusal (early size starts rows (buffers size (length rows) l)) ≡ checked.Passed
+        → (x : Checked) → repeatedRow size starts rows ≡ x → Means size starts rows l after answer
+    second p (checked.Refused r) q =
+        let f = e ∙ sym (formed-outcome size starts rows l p) ∙ sym (repeat-formed size starts rows w (l .outer) r q) in
+        let b : answer ≡ Refused r = ap (λ (o : Outcome). o .answer) f in
+        rw b (repeat-means size starts rows l after r q)
+    second p checked.Passed q =
+        verdict-means size starts rows l after w answer p q
+        (e ∙ sym (formed-outcome size starts rows l p) ∙ sym (verdict-formed size starts rows w (l .outer) q))
+
+    first : (x : Checked) → firstRefusal (early size starts rows (buffers size (length rows) l)) ≡ x
+        → Means size starts rows l after answer
+    first (checked.Refused r) q =
+        let b : answer ≡ Refused r = ap (λ (o : Outcome). o .answer) (e ∙ sym (early-outcome size starts rows l r q)) in
+        rw b (early-means size starts rows l after r q)
+    first checked.Passed q = second q (repeatedRow size starts rows) refl
 
 -- ---- a single outcome
 

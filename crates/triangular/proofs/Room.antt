@@ -26,15 +26,14 @@ roomy-split [] b r = (tt, r)
 roomy-split (x ∷ a) b r = let t = roomy-split a b (r .1) in ((r .0, t .0), t .1)
 
 -- the tests of workspace and stack, joined two by two
-pub work-test : (size entries need en sn : ℕ) (w : Work) (s t stack r rest b back f c ends last v h most all : Bool)
+pub work-test : (size entries need sn : ℕ) (w : Work) (s t stack b r rest back f c ends last v h most all : Bool)
     → need ≡ formNeed size → s ≡ ltb (length (w .scol)) need → t ≡ ltb (length (w .sat)) need → stack ≡ s || t
-    → en ≡ entriesNeed entries → r ≡ ltb (length (w .backrows)) en → rest ≡ r || stack
-    → sn ≡ startsNeed size → b ≡ ltb (length (w .backstarts)) sn → back ≡ b || rest
+    → sn ≡ startsNeed size → b ≡ ltb (length (w .backstarts)) sn → rest ≡ r || stack → back ≡ b || rest
     → f ≡ ltb (length (w .finished)) need → c ≡ ltb (length (w .col2row)) need → ends ≡ c || back → last ≡ f || ends
     → v ≡ ltb (length (w .visited)) need → h ≡ ltb (length (w .cheap)) need → most ≡ h || last → all ≡ v || most
-    → all ≡ oneShort (workBuffers size entries w)
-work-test size entries need en sn w s t stack r rest b back f c ends last v h most all n es et e1 m er e2 k eb e3 ef ec e4 e5 ev eh e6 e7 =
-    e7 ∙ rw (ev, e6, eh, e5, ef, e4, ec, e3, eb, e2, er, e1, es, et, n, m, k)
+    → r ≡ ltb (length (w .backrows)) (entriesNeed entries) → all ≡ oneShort (workBuffers size entries w)
+work-test size entries need sn w s t stack b r rest back f c ends last v h most all n es et e1 k eb e2 e3 ef ec e4 e5 ev eh e6 e7 er =
+    e7 ∙ rw (ev, e6, eh, e5, ef, e4, ec, e3, eb, e2, er, e1, es, et, n, k)
     (sym (short-more _ _ ∙ rw (
       short-more _ _,
       short-more _ _,
@@ -60,3 +59,11 @@ pub cleared-all : (size entries need sn en : ℕ) (v c f r b k s t v′ c′ f�
     → work v′ c′ f′ r′ b′ k′ s′ t′ ≡ cleared size entries (work v c f r b k s t)
 cleared-all size entries need sn en v c f r b k s t v′ c′ f′ r′ b′ k′ s′ t′ n ev ec ef er m eb o ek es et =
     rw (ev, ec, ef, er, eb, ek, es, et, n, m, o)
+
+-- slices that keep their lengths keep their room
+pub work-kept : (size entries : ℕ) (w w′ : Work) → length (w′ .visited) ≡ length (w .visited) → length (w′ .cheap) ≡ length (w .cheap)
+    → length (w′ .finished) ≡ length (w .finished) → length (w′ .col2row) ≡ length (w .col2row)
+    → length (w′ .backstarts) ≡ length (w .backstarts) → length (w′ .backrows) ≡ length (w .backrows)
+    → length (w′ .scol) ≡ length (w .scol) → length (w′ .sat) ≡ length (w .sat) → Roomy (workBuffers size entries w)
+    → Roomy (workBuffers size entries w′)
+work-kept size entries w w′ ev ec ef er eb ek es et h = rw (ev, ec, ef, er, eb, ek, es, et) h

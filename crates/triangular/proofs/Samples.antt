@@ -8,11 +8,11 @@ use Rattle.sparse.specs.Refusals.{firstRefusal, refusedIf, refusedAt, tooLarge,
 use Rattle.sparse.specs.Refusals.{together, repeatsAt, repeatedRow}
 use Rattle.matching.specs.Matching.{scan, search, matchFrom, matching}
 use Rattle.matching.specs.Outcome.{marksOf}
-use Rattle.triangular.specs.Outcome.{outcome}
+use Rattle.triangular.specs.Outcome.{formed, outcome}
 use Rattle.triangular.specs.Samples.{FormSample, formSamples}
 
 pub samples-hold : map (λ (s : FormSample). outcome (s .size) (s .starts) (s .rows) (s .before)) formSamples
     ≡ map (λ (s : FormSample). s .gives) formSamples
 unfolding flatten first some keep table range finishing cut blocks firstRefusal refusedIf refusedAt tooLarge misshapen oneShort noRoom
-    rowOutside early together repeatsAt repeatedRow scan search matchFrom matching marksOf outcome
+    rowOutside early together repeatsAt repeatedRow scan search matchFrom matching marksOf formed outcome
 samples-hold = refl

@@ -13,9 +13,8 @@ use Rattle.graph.proofs.Permutations.{permutes}
 use Rattle.sparse.specs.Buffers.{zeroed}
 use Rattle.sparse.specs.Limits.{none, maxEntries}
 use Rattle.sparse.specs.Matrix.{column, columnOr, Shaped}
-use Rattle.sparse.specs.Refusals.{firstRefusal, early, repeatedRow}
+use Rattle.sparse.specs.Refusals.{firstRefusal, early}
 use Rattle.sparse.specs.declared.Checked.the-variants as checked
-use Rattle.sparse.specs.declared.Refusal.{Refusal}
 use Rattle.sparse.proofs.Buffers.{zeroed-again}
 use Rattle.sparse.proofs.Matrix.{inside, column-beyond}
 use Rattle.matching.specs.Matching.{matching}
@@ -23,15 +22,15 @@ use Rattle.matching.specs.Parts.{SameBeyond}
 use Rattle.matching.proofs.Columns.{unedited}
 use Rattle.matching.proofs.Ready.{short-or}
 use Rattle.blocks.specs.Cut.{HoldsBlocks}
-use Rattle.triangular.specs.Outcome.{Work, work, Outputs, outputs, Lent, lent, buffers, cleared, handedOut, outcome, ended, Given, Means}
+use Rattle.triangular.specs.Outcome.{Work, work, Outputs, outputs, Lent, lent, buffers, cleared}
+use Rattle.triangular.specs.Outcome.{handedOut, formed, outcome, ended, Given, Means}
 use Rattle.triangular.specs.Parts.{SameWork}
 use Rattle.blocks.specs.Reverse.{entries, Reversible}
 use Rattle.triangular.specs.declared.form.BlockAnswer.{BlockAnswer}
 use Rattle.triangular.specs.declared.form.BlockAnswer.the-variants.{Accepted, Refused}
 use Rattle.blocks.proofs.Entries.{entries-plain}
-use Rattle.triangular.proofs.Outcome.{Handed, handed-agree, hand-accepted, decides}
-use Rattle.triangular.proofs.Outcome.{repeat-outcome, verdict-outcome, verdict-means}
-use Rattle.triangular.proofs.Matched.{same-cleared}
+use Rattle.triangular.proofs.Outcome.{Handed, handed-agree, hand-accepted, decides, formed-outcome, outcome-means}
+use Rattle.triangular.proofs.UnderMatching.{same-cleared}
 
 -- ---- what the matching hands on
 
@@ -102,20 +101,12 @@ pub cleared-first : (size k : ℕ) (w : Work) (v v′ : List ℕ) → v ≡ zero
     → cleared size k (work v′ (w .cheap) (w .finished) (w .col2row) (w .backstarts) (w .backrows) (w .scol) (w .sat)) ≡ cleared size k w
 cleared-first size k w v v′ e f = rw (zeroed-again size (w .visited) v v′ e (rw f))
 
--- refused by 4, with the workspace cleared
-pub repeat-exit : (size : ℕ) (starts : List ℕ) (rows : List Row) (l : Lent) (w : Work) (r : Refusal)
-    → firstRefusal (early size starts rows (buffers size (length rows) l)) ≡ checked.Passed
-    → repeatedRow size starts rows ≡ checked.Refused r → w ≡ cleared size (length rows) (l .inner)
-    → ended (Refused r) (lent w (l .outer)) ≡ outcome size starts rows l
-repeat-exit size starts rows l w r p e f = rw f (repeat-outcome size starts rows l r p e)
-
--- a verdict handed out, with the workspace cleared
-pub verdict-exit : (size : ℕ) (starts : List ℕ) (rows : List Row) (l : Lent) (w : Work) (o : Outputs) (answer : BlockAnswer)
-    → firstRefusal (early size starts rows (buffers size (length rows) l)) ≡ checked.Passed
-    → repeatedRow size starts rows ≡ checked.Passed → w ≡ cleared size (length rows) (l .inner)
-    → ((u : Work) → ended answer (lent u o) ≡ handedOut size (column starts rows) u (l .outer) (matching size (column starts rows)))
+-- what is formed, with the workspace cleared
+pub tested-exit : (size : ℕ) (starts : List ℕ) (rows : List Row) (l : Lent) (w : Work) (o : Outputs) (answer : BlockAnswer)
+    → firstRefusal (early size starts rows (buffers size (length rows) l)) ≡ checked.Passed → w ≡ cleared size (length rows) (l .inner)
+    → ((u : Work) → ended answer (lent u o) ≡ formed size starts rows u (l .outer))
     → (ended answer (lent w o) ≡ outcome size starts rows l) × Means size starts rows l (lent w o) answer
-verdict-exit size starts rows l w o answer p e f h = (
-  rw f (h (cleared size (length rows) (l .inner)) ∙ verdict-outcome size starts rows l p e),
-  verdict-means size starts rows l (lent w o) w answer p e (h w),
-)
+tested-exit size starts rows l w o answer p f h =
+    let e : ended answer (lent w o) ≡ outcome size starts rows l =
+    rw f (h (cleared size (length rows) (l .inner)) ∙ formed-outcome size starts rows l p) in
+    (e, outcome-means size starts rows l (lent w o) answer e)

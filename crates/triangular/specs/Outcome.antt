@@ -141,13 +141,17 @@ handedOut size col w o (refused c visited) =
     (lent w (outputs (zeroed (formNeed size) (o .row2col)) (filled (marksOf size visited) (o .hall))
     (zeroed (formNeed size) (o .blockcols)) (zeroed (startsNeed size) (o .blockstarts))))
 
--- for any input: 1, 2, 5 and 3 change nothing; 4 leaves workspace and stack zero; else the matching rule's verdict is handed out
+-- where 1, 2, 5 and 3 let a matrix through: 4 changes no output; else the matching rule's verdict is handed out
+unfoldable pub formed : ℕ → List ℕ → List Row → Work → Outputs → Outcome
+formed size starts rows w o =
+    onCheck (repeatedRow size starts rows) (λ (r : Refusal). ended (Refused r) (lent w o))
+    (handedOut size (column starts rows) w o (matching size (column starts rows)))
+
+-- for any input: 1, 2, 5 and 3 change nothing; anything else leaves workspace and stack zero
 unfoldable pub outcome : ℕ → List ℕ → List Row → Lent → Outcome
 outcome size starts rows l =
-    let clean = cleared size (length rows) (l .inner) in
     onCheck (firstRefusal (early size starts rows (buffers size (length rows) l))) (λ (r : Refusal). ended (Refused r) l)
-    (onCheck (repeatedRow size starts rows) (λ (r : Refusal). ended (Refused r) (lent clean (l .outer)))
-    (handedOut size (column starts rows) clean (l .outer) (matching size (column starts rows))))
+    (formed size starts rows (cleared size (length rows) (l .inner)) (l .outer))
 
 -- ---- the meaning
 

@@ -1,11 +1,12 @@
 // The block triangular form: its answer, its needs, and the parts of its entry that look at every buffer.
 ghost use mathlib.Core.Path.{_≡_};
+ghost use mathlib.Core.List.{List};
 ghost use Prim.Native.Nat.{ℕ, _+_, _≤_};
 ghost use lib.Dec.{ltb};
 ghost use lib.ListN.{length};
 ghost use Rattle.graph.specs.Permutations.{Permutes, inverse};
 ghost use Rattle.sparse.specs.Buffers.{zeroed, filled};
-ghost use Rattle.sparse.specs.Limits.{maxSize, maxEntries};
+ghost use Rattle.sparse.specs.Limits.{maxSize};
 ghost use Rattle.sparse.specs.Refusals.{oneShort, Roomy};
 ghost use Rattle.triangular.specs.Outcome.{work, outputs, lent, formNeed, startsNeed, entriesNeed, workBuffers, outputBuffers, buffers};
 ghost use Rattle.triangular.specs.Outcome.{cleared, passedOn};
@@ -40,40 +41,38 @@ pub fn starts_need(size: u32) -> usize
 }
 
 // How many numbers are needed of the reversed graph's rows.
-pub fn entries_need(rows: &[u32]) -> usize
-    ensures { λ r. ⌜ r ≡ entriesNeed (length (now (rows .entry))) ⌝ }
+pub fn entries_need(entries: usize) -> usize
+    ensures { λ r. ⌜ r ≡ entriesNeed entries ⌝ }
 {
-    rows.len()
+    entries
 }
 
 // Whether a slice is shorter than a need that may be larger than any size.
-fn is_less(len: usize, need: usize) -> bool
+pub fn is_less(len: usize, need: usize) -> bool
     ensures { λ r. ⌜ r ≡ ltb len need ⌝ }
 {
     len < need
 }
 
-// Whether a slice of the workspace or of the stack is shorter than its need.
+// Whether a slice of the workspace or of the stack is shorter than its need; the caller has tested the reversed graph's rows.
 fn lacks_work(
     size: u32,
-    rows: &[u32],
+    few: bool,
     visited: &[u32],
     cheap: &[u32],
     finished: &[u32],
     col2row: &[u32],
     backstarts: &[u32],
-    backrows: &[u32],
     scol: &[u32],
     sat: &[u32],
 ) -> bool
-    ensures { λ r. ⌜ r ≡ oneShort (workBuffers size (length (now (rows .entry))) (work (now (visited .entry)) (now (cheap .entry))
-        (now (finished .entry)) (now (col2row .entry)) (now (backstarts .entry)) (now (backrows .entry)) (now (scol .entry))
-        (now (sat .entry)))) ⌝ }
+    ensures { λ r. ⌜ ((backrows : List ℕ) (entries : ℕ) → few ≡ ltb (length backrows) (entriesNeed entries)
+        → r ≡ oneShort (workBuffers size entries (work (now (visited .entry)) (now (cheap .entry)) (now (finished .entry))
+        (now (col2row .entry)) (now (backstarts .entry)) backrows (now (scol .entry)) (now (sat .entry))))) ⌝ }
 {
     let need = form_need(size);
     let stack = or(is_short(scol.len(), need), is_short(sat.len(), need));
-    let rest = or(is_less(backrows.len(), entries_need(rows)), stack);
-    let back = or(is_less(backstarts.len(), starts_need(size)), rest);
+    let back = or(is_less(backstarts.len(), starts_need(size)), or(few, stack));
     let last = or(
         is_short(finished.len(), need),
         or(is_short(col2row.len(), need), back),
@@ -106,16 +105,15 @@ fn lacks_outputs(
     )
 }
 
-// Whether a buffer is shorter than its need.
+// Whether a buffer is shorter than its need; the caller has tested the reversed graph's rows.
 pub fn lacks_room(
     size: u32,
-    rows: &[u32],
+    few: bool,
     visited: &[u32],
     cheap: &[u32],
     finished: &[u32],
     col2row: &[u32],
     backstarts: &[u32],
-    backrows: &[u32],
     scol: &[u32],
     sat: &[u32],
     row2col: &[u32],
@@ -123,19 +121,19 @@ pub fn lacks_room(
     blockcols: &[u32],
     blockstarts: &[u32],
 ) -> bool
-    ensures { λ r. ⌜ r ≡ oneShort (buffers size (length (now (rows .entry))) (lent (work (now (visited .entry)) (now (cheap .entry))
-        (now (finished .entry)) (now (col2row .entry)) (now (backstarts .entry)) (now (backrows .entry)) (now (scol .entry))
-        (now (sat .entry))) (outputs (now (row2col .entry)) (now (hall .entry)) (now (blockcols .entry)) (now (blockstarts .entry))))) ⌝ }
+    ensures { λ r. ⌜ ((backrows : List ℕ) (entries : ℕ) → few ≡ ltb (length backrows) (entriesNeed entries)
+        → r ≡ oneShort (buffers size entries (lent (work (now (visited .entry)) (now (cheap .entry)) (now (finished .entry))
+        (now (col2row .entry)) (now (backstarts .entry)) backrows (now (scol .entry)) (now (sat .entry)))
+        (outputs (now (row2col .entry)) (now (hall .entry)) (now (blockcols .entry)) (now (blockstarts .entry)))))) ⌝ }
 {
     let inner = lacks_work(
         size,
-        rows,
+        few,
         visited,
         cheap,
         finished,
         col2row,
         backstarts,
-        backrows,
         scol,
         sat,
     );
@@ -148,7 +146,7 @@ pub fn lacks_room(
 // The workspace and the stack become zero over their needs.
 pub fn clear_work(
     size: u32,
-    rows: &[u32],
+    entries: u32,
     visited: &mut [u32],
     cheap: &mut [u32],
     finished: &mut [u32],
@@ -158,12 +156,12 @@ pub fn clear_work(
     scol: &mut [u32],
     sat: &mut [u32],
 )
-    requires { ⌜ (size ≤ maxSize) × (length (now rows) ≤ maxEntries) ⌝ }
-    requires { ⌜ Roomy (workBuffers size (length (now rows)) (work (now visited) (now cheap) (now finished) (now col2row)
+    requires { ⌜ size ≤ maxSize ⌝ }
+    requires { ⌜ Roomy (workBuffers size entries (work (now visited) (now cheap) (now finished) (now col2row)
         (now backstarts) (now backrows) (now scol) (now sat))) ⌝ }
     ensures { λ _. ⌜ work (now (visited .exit)) (now (cheap .exit)) (now (finished .exit)) (now (col2row .exit))
         (now (backstarts .exit)) (now (backrows .exit)) (now (scol .exit)) (now (sat .exit))
-        ≡ cleared size (length (now (rows .entry))) (work (now (visited .entry)) (now (cheap .entry)) (now (finished .entry))
+        ≡ cleared size entries (work (now (visited .entry)) (now (cheap .entry)) (now (finished .entry))
         (now (col2row .entry)) (now (backstarts .entry)) (now (backrows .entry)) (now (scol .entry)) (now (sat .entry))) ⌝ }
 {
     let need = form_need(size);
@@ -172,7 +170,7 @@ pub fn clear_work(
     clear(finished, need);
     clear(col2row, need);
     clear(backstarts, starts_need(size) as u32);
-    clear(backrows, entries_need(rows) as u32);
+    clear(backrows, entries_need(entries as usize) as u32);
     clear(scol, need);
     clear(sat, need);
 }

@@ -81,7 +81,8 @@ part-none-end c = search needs
 loop-holds : tie.Need-loop-holds Inv-loop μ-loop
 loop-holds c =
     let at-after-clear = c .before .before .before in
-    let at-start = at-after-clear .before .before .before .before .before .before .before .before .before .before .before .before in
+    let at-start = at-after-clear .before .before .before .before .before .before .before .before .before .before .before .before
+    in
     seconds-start (pass-unedited (at-start .pre .0) (at-start .pre .1 .0)) (at-start .pre .1 .1) (at-after-clear .clear .ensures)
     (omega (arith, at-after-clear .clear .kept))
 
@@ -98,8 +99,11 @@ walk-new-requires c κs =
     let at-after-column-at = c .before .before .before .before .before in
     let at-loop = at-after-column-at .before .before in
     let at-start = at-loop .before .before .before .before .before .before .before .before .before .before .before .before
-    .before .before .before .before in
-    (at-start .pre .0, pass-ready ((at-loop .loop) .inv .pass) (at-after-column-at .column-at .result .0) (low at-after-column-at))
+    .before .before .before .before in (
+      at-start .pre .0,
+      pass-ready ((at-loop .loop) .inv .pass) (at-after-column-at .column-at .result .0) (low
+          at-after-column-at),
+    )
 
 end-block-requires : tie.Need-end-block-requires Inv-loop μ-loop
 end-block-requires c κs =
@@ -160,7 +164,8 @@ returns : tie.Need-returns Inv-loop μ-loop
 returns c =
     let at-loop = c .before in
     let at-after-clear = at-loop .before .before .before .before in
-    let at-start = at-after-clear .before .before .before .before .before .before .before .before .before .before .before .before in (
+    let at-start = at-after-clear .before .before .before .before .before .before .before .before .before .before .before .before
+    in (
       holds-unedited ((at-start .args) .row2col .now) ((at-start .args) .finished .now) (at-start .pre .0)
           (seconds-end ((at-loop .loop) .inv) (omega (arith, c .loop-test .left)) (at-after-clear .clear .ensures)),
       pass-same ((at-loop .loop) .inv .pass),

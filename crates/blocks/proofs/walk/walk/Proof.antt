@@ -28,18 +28,23 @@ abbrev μ-loop : tie.MeasureT-loop
     weight size e f depth
 
 -- the column in hand is the one on top, with its rows
-hand : (c : tie.After-col-rows Inv-loop μ-loop) → Hand (columnOr (c .before .before .before .before .before .before .before .before
+hand : (c : tie.After-col-rows Inv-loop μ-loop) → Hand (columnOr (c .before .before .before .before .before .before .before
+    .before
     .before .before .before .before .before .before .before .before .before .before .args .starts .now) (c .before .before .before
-    .before .before .before .before .before .before .before .before .before .before .before .before .before .before .before .args .rows
+    .before .before .before .before .before .before .before .before .before .before .before .before .before .before .before .args
+    .rows
     .now)
-    (c .before .before .before .before .before .before .before .before .before .before .before .before .before .before .before .before
+    (c .before .before .before .before .before .before .before .before .before .before .before .before .before .before .before
+    .before
     .before .before .args .edited .0) (c .before .before .before .before .before .before .before .before .before .before .before
-    .before .before .before .before .before .before .before .args .replacement .now)) (c .before .before .before .before .loop .scol)
+    .before .before .before .before .before .before .before .args .replacement .now)) (c .before .before .before .before .loop
+    .scol)
     (c .before .before .before .before .loop .depth - 1) (c .before .column-at .result .0) (c .col-rows .result .now)
 hand c = record { column = c .before .column-at .ensures; rows = c .col-rows .ensures }
 
 -- in the first arm it is not visited
-fresh : (c : tie.Then1 Inv-loop μ-loop) → getD (c .before .before .before .before .before .before .before .loop .visited) (c .before
+fresh : (c : tie.Then1 Inv-loop μ-loop) → getD (c .before .before .before .before .before .before .before .loop .visited) (c
+    .before
     .before .before .before .column-at .result .0) 0 ≢ c .before .before .before .before .before .before .before .before .before
     .before .before .before .before .before .before .before .before .before .before .before .before .args .mark
 fresh c =
@@ -47,7 +52,8 @@ fresh c =
     λ z. c .if1 .taken (at-after-by-column .by-column .ensures ∙ z)
 
 -- in the other it is
-marked : (c : tie.Else1 Inv-loop μ-loop) → getD (c .before .before .before .before .before .before .before .loop .visited) (c .before
+marked : (c : tie.Else1 Inv-loop μ-loop) → getD (c .before .before .before .before .before .before .before .loop .visited) (c
+    .before
     .before .before .before .column-at .result .0) 0 ≡ c .before .before .before .before .before .before .before .before .before
     .before .before .before .before .before .before .before .before .before .before .before .before .args .mark
 marked c =
@@ -62,7 +68,8 @@ room c =
     top-room (at-top (at-loop .loop .inv) (c .loop-test .taken))
 
 -- its column is below the size
-low : (c : tie.After-column-at Inv-loop μ-loop) → c .column-at .result .0 < c .before .before .before .before .before .before .before
+low : (c : tie.After-column-at Inv-loop μ-loop) → c .column-at .result .0 < c .before .before .before .before .before .before
+    .before
     .before .before .before .before .before .before .before .before .before .before .args .size
 low c =
     let at-in-loop = c .before .before in
@@ -73,7 +80,8 @@ low c =
 few : (c : tie.After-col-rows Inv-loop μ-loop) → length (c .col-rows .result .now) ≤ maxEntries
 few c =
     let at-after-column-at = c .before in
-    let at-start = at-after-column-at .before .before .before .before .before .before .before .before .before .before .before .before
+    let at-start = at-after-column-at .before .before .before .before .before .before .before .before .before .before .before
+    .before
     .before .before .before .before .before in
     rw (c .col-rows .ensures) (at-start .pre .1 .short (at-after-column-at .column-at .result .0))
 
@@ -99,7 +107,8 @@ column-at-requires c κs =
 
 col-rows-requires : tie.Need-col-rows-requires Inv-loop μ-loop
 col-rows-requires c κs =
-    let at-start = c .before .before .before .before .before .before .before .before .before .before .before .before .before .before
+    let at-start = c .before .before .before .before .before .before .before .before .before .before .before .before .before
+    .before
     .before .before .before in
     (at-start .pre .0, low c)
 
@@ -154,7 +163,8 @@ advance-requires c κs =
     let at-start = at-loop .before .before .before .before .before .before .before .before .before .before .before .before .before
     .before in
     let R = scan-ready (arm-enter (at-loop .loop .inv) (at-in-loop .loop-test .taken) (hand at-after-col-rows) (fresh at-then1)
-    (at-after-put-by-column .put-by-column .ensures) (at-after-put-column2 .put-column2 .ensures)) (hand at-after-col-rows) (at-start
+    (at-after-put-by-column .put-by-column .ensures) (at-after-put-column2 .put-column2 .ensures)) (hand at-after-col-rows)
+    (at-start
     .pre .0 .small) (few at-after-col-rows) in
     (R .short, (R .cols, R .room))
 
@@ -168,7 +178,8 @@ leave-requires c κs =
     let at-loop = at-in-loop .before in
     let at-start = at-loop .before .before .before .before .before .before .before .before .before .before .before .before .before
     .before in
-    let room = finish-room (arm-enter (at-loop .loop .inv) (at-in-loop .loop-test .taken) (hand at-after-col-rows) (fresh at-then1)
+    let room = finish-room (arm-enter (at-loop .loop .inv) (at-in-loop .loop-test .taken) (hand at-after-col-rows) (fresh
+    at-then1)
     (at-after-put-by-column .put-by-column .ensures) (at-after-put-column2 .put-column2 .ensures)) in
     (omega (arith, room, at-loop .loop .inv .slices .finished-kept .long), omega (arith, room, at-start .pre .0 .small))
 
@@ -182,8 +193,10 @@ loop-less c =
     let at-after-col-rows = at-then1 .before .before .before in
     let at-in-loop = at-after-col-rows .before .before .before in
     let at-loop = at-in-loop .before in
-    fall-enter (at-loop .loop .e) (at-in-loop .loop-test .taken) (arm-enter (at-loop .loop .inv) (at-in-loop .loop-test .taken) (hand
-    at-after-col-rows) (fresh at-then1) (at-after-put-by-column .put-by-column .ensures) (at-after-put-column2 .put-column2 .ensures))
+    fall-enter (at-loop .loop .e) (at-in-loop .loop-test .taken) (arm-enter (at-loop .loop .inv) (at-in-loop .loop-test .taken)
+    (hand
+    at-after-col-rows) (fresh at-then1) (at-after-put-by-column .put-by-column .ensures) (at-after-put-column2 .put-column2
+    .ensures))
     (at-after-advance .advance .ensures) (at-after-leave .leave .ensures)
 
 loop-again : tie.Need-loop-again Inv-loop μ-loop
@@ -243,7 +256,8 @@ leave-requires-2 c κs =
     let at-loop = at-in-loop .before in
     let at-start = at-loop .before .before .before .before .before .before .before .before .before .before .before .before .before
     .before in
-    let room = finish-room (arm-again {from = at-after-get .get .result + 1} (at-loop .loop .inv) (at-in-loop .loop-test .taken) (hand
+    let room = finish-room (arm-again {from = at-after-get .get .result + 1} (at-loop .loop .inv) (at-in-loop .loop-test .taken)
+    (hand
     at-after-col-rows) (marked at-else1) (omega (arith, at-after-get .get .ensures))) in
     (omega (arith, room, at-loop .loop .inv .slices .finished-kept .long), omega (arith, room, at-start .pre .0 .small))
 

@@ -2,7 +2,7 @@
 use mathlib.Core.List.{[]}
 use Rattle.triangular.proofs.Valid.{handed-reversible, valid-accepted, matching-same, accepted-cleared}
 use Rattle.triangular.proofs.Outcome.{handed-on, hand-passed}
-use Rattle.triangular.proofs.Matched.{same-cleared}
+use Rattle.triangular.proofs.UnderMatching.{same-cleared}
 use Rattle.blocks.proofs.Entries.{entries-plain}
 use Rattle.triangular.specs.Outcome.{work, outputs, lent}
 use Rattle.matching.specs.Outcome as m
@@ -17,7 +17,7 @@ use Rattle.triangular.proofs.entry.block_valid.Statement.{statement}
 use Rattle.triangular.proofs.entry.block_valid.Tie as tie
 use Rattle.triangular.proofs.entry.block_valid.Reads as reads
 use Rattle.triangular.proofs.entry.block_valid.Lts as lts
-use Rattle.triangular.proofs.entry.block_matched.Reads as block-matched-reads
+use Rattle.triangular.proofs.matched.block_matched.Reads as block-matched-reads
 use Rattle.triangular.proofs.form.clear_blocks.Reads as clear-blocks-reads
 use Rattle.triangular.proofs.form.pass_on.Reads as pass-on-reads
 use Rattle.matching.proofs.diagonal.match_valid.Reads as match-valid-reads

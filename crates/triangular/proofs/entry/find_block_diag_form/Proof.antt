@@ -1,88 +1,83 @@
--- `find_block_diag_form` meets its contract: each exit is a law of the outcome and one of the meaning.
-use Rattle.triangular.proofs.Valid.{cleared-first, repeat-exit, verdict-exit}
-use Rattle.triangular.proofs.Outcome.{given, early-outcome, early-means, repeat-means}
-use Rattle.triangular.specs.Outcome.{work, outputs, lent, buffers}
-use Rattle.sparse.proofs.Early.{early-passed}
-use Rattle.sparse.proofs.Buffers.{zero-below}
-use Rattle.sparse.specs.declared.Checked.the-variants as checked
-use Rattle.sparse.specs.Refusals.{firstRefusal, early, repeatedRow}
-use lib.ListN.{length}
-use mathlib.Core.Path.{_≡_, sym, _∙_, refl}
+-- `find_block_diag_form` meets its contract: a refusal of the early checks, or what is formed with the workspace cleared, is the outcome.
 use native.Mathlib.Omega.{arith}
+use Prim.Native.Nat.{ℕ}
+use mathlib.Core.Path.{_≡_, sym, ap, _∙_}
+use mathlib.Core.List.{List}
+use lib.ListN.{length}
+use lib.Dec.{ltb}
+use Rattle.sparse.specs.Refusals.{Buffer, firstRefusal, early}
+use Rattle.sparse.specs.declared.Checked.the-variants as checked
+use Rattle.sparse.specs.declared.Checked.{Checked}
+use Rattle.sparse.proofs.Early.{Early, early-passed}
+use Rattle.triangular.specs.Outcome.{Lent, work, outputs, lent, buffers, workBuffers, outputBuffers}
+use Rattle.triangular.proofs.Room.{work-kept, roomy-split}
+use Rattle.triangular.proofs.Outcome.{early-outcome, outcome-means}
+use Rattle.triangular.proofs.Valid.{tested-exit}
 use borrow.Author.Needs.{needs}
 use Rattle.triangular.proofs.entry.find_block_diag_form.Statement.{statement}
 use Rattle.triangular.proofs.entry.find_block_diag_form.Tie as tie
 use Rattle.triangular.proofs.entry.find_block_diag_form.Reads as reads
 use Rattle.triangular.proofs.entry.find_block_diag_form.Lts as lts
-use Rattle.triangular.proofs.entry.block_valid.Reads as block-valid-reads
-use Rattle.triangular.proofs.form.clear_work.Reads as clear-work-reads
-use Rattle.triangular.proofs.form.lacks_room.Reads as lacks-room-reads
 use Rattle.sparse.proofs.checks.check_early.Reads as check-early-reads
-use Rattle.sparse.proofs.checks.check_repeats.Reads as check-repeats-reads
-use Rattle.sparse.proofs.slices.clear.Reads as clear-reads
+use Rattle.triangular.proofs.entry.block_tested.Reads as block-tested-reads
+use Rattle.triangular.proofs.form.clear_work.Reads as clear-work-reads
+use Rattle.triangular.proofs.form.entries_need.Reads as entries-need-reads
+use Rattle.triangular.proofs.form.is_less.Reads as is-less-reads
+use Rattle.triangular.proofs.form.lacks_room.Reads as lacks-room-reads
 
-passed : (c : tie.After-enum-told) → firstRefusal (early (c .before .before .before .before .before .before .before .before
+-- what is lent, its buffers, and what the early checks say of them
+abbrev lent-at : (c : tie.Start) → Lent
+lent-at c =
+    lent (work (c .args .visited .now) (c .args .cheap .now) (c .args .finished .now) (c .args .col2row .now) (c .args
+    .backstarts .now)
+    (c .args .backrows .now) (c .args .scol .now) (c .args .sat .now))
+    (outputs (c .args .row2col .now) (c .args .hall .now) (c .args .blockcols .now) (c .args .blockstarts .now))
+
+abbrev buffers-at : (c : tie.Start) → List Buffer
+buffers-at c = buffers (c .args .size) (length (c .args .rows .now)) (lent-at c)
+
+abbrev early-at : (c : tie.Start) → Checked
+early-at c = firstRefusal (early (c .args .size) (c .args .starts .now) (c .args .rows .now) (buffers-at c))
+
+abbrev Early-at : (c : tie.Start) → Type 0
+Early-at c = Early (c .args .size) (c .args .starts .now) (c .args .rows .now) (buffers-at c)
+
+found : (c : tie.After-check-early) → c .check-early .result ≡ early-at (c .before .before .before .before .before .before
     .before .before .before .before .before .before .before .before .before .before .before .before .before .before .before
-    .before .before .before .before .before .before .before .args .size) (c .before .before .before .before .before .before
+    .before .before .before .before .before .before .before .before)
+found c =
+    let at-after-lacks-room = c .before in
+    let at-after-is-less = at-after-lacks-room .before .before .before .before .before .before .before .before .before .before
+    .before .before in
+    let at-after-entries-need = at-after-is-less .before in
+    let at-start = at-after-entries-need .before .before .before .before .before .before .before .before .before .before .before
+    .before .before .before .before in
+    c .check-early .ensures (buffers-at at-start) (at-after-lacks-room .lacks-room .ensures (at-start .args .backrows .now)
+    (length (at-start .args .rows .now)) (at-after-is-less .is-less .ensures
+    ∙ ap (λ (t : ℕ). ltb (length (at-start .args .backrows .now)) t) (at-after-entries-need .entries-need .ensures)))
+
+none-refused : (c : tie.After-enum-told) → early-at (c .before .before .before .before .before .before .before .before .before
     .before .before .before .before .before .before .before .before .before .before .before .before .before .before .before
-    .before .before .before .before .before .before .before .before .before .args .starts .now) (c .before .before .before
-    .before .before .before .before .before .before .before .before .before .before .before .before .before .before .before
-    .before .before .before .before .before .before .before .before .before .before .before .before .args .rows .now) (buffers (c
-    .before .before .before .before .before .before .before .before .before .before .before .before .before .before .before
-    .before .before .before .before .before .before .before .before .before .before .before .before .before .before .before .args
-    .size) (length (c .before .before .before .before .before .before .before .before .before .before .before .before .before
-    .before .before .before .before .before .before .before .before .before .before .before .before .before .before .before
-    .before .before .args .rows .now)) (lent (work (c .before .before .before .before .before .before .before .before .before
-    .before .before .before .before .before .before .before .before .before .before .before .before .before .before .before
-    .before .before .before .before .before .before .args .visited .now) (c .before .before .before .before .before .before
-    .before .before .before .before .before .before .before .before .before .before .before .before .before .before .before
-    .before .before .before .before .before .before .before .before .before .args .cheap .now) (c .before .before .before .before
-    .before .before .before .before .before .before .before .before .before .before .before .before .before .before .before
-    .before .before .before .before .before .before .before .before .before .before .before .args .finished .now) (c .before
-    .before .before .before .before .before .before .before .before .before .before .before .before .before .before .before
-    .before .before .before .before .before .before .before .before .before .before .before .before .before .before .args
-    .col2row .now) (c .before .before .before .before .before .before .before .before .before .before .before .before .before
-    .before .before .before .before .before .before .before .before .before .before .before .before .before .before .before
-    .before .before .args .backstarts .now) (c .before .before .before .before .before .before .before .before .before .before
-    .before .before .before .before .before .before .before .before .before .before .before .before .before .before .before
-    .before .before .before .before .before .args .backrows .now) (c .before .before .before .before .before .before .before
-    .before .before .before .before .before .before .before .before .before .before .before .before .before .before .before
-    .before .before .before .before .before .before .before .before .args .scol .now) (c .before .before .before .before .before
-    .before .before .before .before .before .before .before .before .before .before .before .before .before .before .before
-    .before .before .before .before .before .before .before .before .before .before .args .sat .now)) (outputs (c .before .before
-    .before .before .before .before .before .before .before .before .before .before .before .before .before .before .before
-    .before .before .before .before .before .before .before .before .before .before .before .before .before .args .row2col .now)
-    (c .before .before .before .before .before .before .before .before .before .before .before .before .before .before .before
-    .before .before .before .before .before .before .before .before .before .before .before .before .before .before .before .args
-    .hall .now) (c .before .before .before .before .before .before .before .before .before .before .before .before .before
-    .before .before .before .before .before .before .before .before .before .before .before .before .before .before .before
-    .before .before .args .blockcols .now) (c .before .before .before .before .before .before .before .before .before .before
-    .before .before .before .before .before .before .before .before .before .before .before .before .before .before .before
-    .before .before .before .before .before .args .blockstarts .now))))) ≡ checked.Passed
-passed c =
+    .before .before .before .before .before .before .before) ≡ checked.Passed
+none-refused c =
     let at-after-check-early = c .before .before in
-    let at-after-lacks-room = at-after-check-early .before in
-    let at-start = at-after-lacks-room .before .before .before .before .before .before .before .before .before .before .before
-    .before .before .before .before .before .before .before .before .before .before .before .before .before .before .before
-    .before in
-    sym (at-after-check-early .check-early .ensures (buffers (at-start .args .size) (length (at-start .args .rows .now)) (lent
-    (work (at-start .args .visited .now) (at-start .args .cheap .now) (at-start .args .finished .now) (at-start .args .col2row
-    .now) (at-start .args .backstarts .now) (at-start .args .backrows .now) (at-start .args .scol .now) (at-start .args .sat
-    .now)) (outputs (at-start .args .row2col .now) (at-start .args .hall .now) (at-start .args .blockcols .now) (at-start .args
-    .blockstarts .now)))) (at-after-lacks-room .lacks-room .ensures)) ∙ c .enum-told .given .1
+    sym (found at-after-check-early) ∙ c .enum-told .given .1
 
-once : (c : tie.After-enum-told2) → repeatedRow (c .before .before .before .before .before .before .before .before .before
+passed : (c : tie.After-enum-told) → Early-at (c .before .before .before .before .before .before .before .before .before .before
     .before .before .before .before .before .before .before .before .before .before .before .before .before .before .before
+    .before .before .before .before .before .before)
+passed c =
+    let at-start = c .before .before .before .before .before .before .before .before .before .before .before .before .before
     .before .before .before .before .before .before .before .before .before .before .before .before .before .before .before
-    .before .args .size) (c .before .before .before .before .before .before .before .before .before .before .before .before
-    .before .before .before .before .before .before .before .before .before .before .before .before .before .before .before
-    .before .before .before .before .before .before .before .before .before .before .before .before .before .args .starts .now)
-    (c .before .before .before .before .before .before .before .before .before .before .before .before .before .before .before
-    .before .before .before .before .before .before .before .before .before .before .before .before .before .before .before
-    .before .before .before .before .before .before .before .before .before .before .args .rows .now) ≡ checked.Passed
-once c =
-    let at-after-check-repeats = c .before .before .before .before in
-    sym (at-after-check-repeats .check-repeats .ensures .0) ∙ c .enum-told2 .given .1
+    .before .before .before in
+    early-passed (at-start .args .size) (at-start .args .starts .now) (at-start .args .rows .now) (buffers-at at-start)
+    (none-refused c)
+
+entries-need-requires : tie.Need-entries-need-requires
+entries-need-requires c κs = search needs
+
+is-less-requires : tie.Need-is-less-requires
+is-less-requires c κs = search needs
 
 lacks-room-requires : tie.Need-lacks-room-requires
 lacks-room-requires c κs = search needs
@@ -126,760 +121,185 @@ same-length-10 c = search needs
 same-length-11 : tie.Need-same-length-11
 same-length-11 c = search needs
 
-same-length-12 : tie.Need-same-length-12
-same-length-12 c = search needs
-
 returns : tie.Need-returns
 returns c =
     let at-after-first = c .before in
     let at-after-check-early = at-after-first .before .before in
-    let at-after-lacks-room = at-after-check-early .before in
-    let at-start = at-after-lacks-room .before .before .before .before .before .before .before .before .before .before .before
+    let at-start = at-after-check-early .before .before .before .before .before .before .before .before .before .before .before
     .before .before .before .before .before .before .before .before .before .before .before .before .before .before .before
-    .before in (
-      early-outcome (at-start .args .size) (at-start .args .starts .now) (at-start .args .rows .now) (lent (work (at-start .args
-          .visited .now) (at-start .args .cheap .now) (at-start .args .finished .now) (at-start .args .col2row .now) (at-start .args
-          .backstarts .now) (at-start .args .backrows .now) (at-start .args .scol .now) (at-start .args .sat .now)) (outputs
-          (at-start
-          .args .row2col .now) (at-start .args .hall .now) (at-start .args .blockcols .now) (at-start .args .blockstarts .now)))
-          _ (sym
-          (at-after-check-early .check-early .ensures (buffers (at-start .args .size) (length (at-start .args .rows .now)) (lent
-          (work
-          (at-start .args .visited .now) (at-start .args .cheap .now) (at-start .args .finished .now) (at-start .args .col2row .now)
-          (at-start .args .backstarts .now) (at-start .args .backrows .now) (at-start .args .scol .now) (at-start .args .sat .now))
-          (outputs (at-start .args .row2col .now) (at-start .args .hall .now) (at-start .args .blockcols .now) (at-start .args
-          .blockstarts .now))))
-          (at-after-lacks-room .lacks-room .ensures)) ∙ at-after-first .first .given .1),
-      early-means (at-start .args .size) (at-start .args .starts .now) (at-start .args .rows .now) (lent (work (at-start .args
-          .visited .now) (at-start .args .cheap .now) (at-start .args .finished .now) (at-start .args .col2row .now) (at-start .args
-          .backstarts .now) (at-start .args .backrows .now) (at-start .args .scol .now) (at-start .args .sat .now)) (outputs
-          (at-start
-          .args .row2col .now) (at-start .args .hall .now) (at-start .args .blockcols .now) (at-start .args .blockstarts .now))) _ _
-          (sym (at-after-check-early .check-early .ensures (buffers (at-start .args .size) (length (at-start .args .rows .now))
-          (lent
-          (work (at-start .args .visited .now) (at-start .args .cheap .now) (at-start .args .finished .now) (at-start .args .col2row
-          .now) (at-start .args .backstarts .now) (at-start .args .backrows .now) (at-start .args .scol .now) (at-start .args .sat
-          .now)) (outputs (at-start .args .row2col .now) (at-start .args .hall .now) (at-start .args .blockcols .now) (at-start
-          .args
-          .blockstarts .now))))
-          (at-after-lacks-room .lacks-room .ensures)) ∙ at-after-first .first .given .1),
-    )
+    .before .before .before in
+    let e = early-outcome (at-start .args .size) (at-start .args .starts .now) (at-start .args .rows .now) (lent-at at-start) _
+    (sym (found at-after-check-early) ∙ at-after-first .first .given .1) in
+    (e, outcome-means (at-start .args .size) (at-start .args .starts .now) (at-start .args .rows .now) (lent-at at-start) _ _ e)
 
 enum-told : tie.Need-enum-told
 enum-told c = search needs
 
-clear-requires : tie.Need-clear-requires
-clear-requires c κs =
-    let at-after-enum-told = c .before in
-    let at-start = at-after-enum-told .before .before .before .before .before .before .before .before .before .before .before
-    .before .before .before .before .before .before .before .before .before .before .before .before .before .before .before
-    .before .before .before .before in
-    (early-passed (at-start .args .size) (at-start .args .starts .now) (at-start .args .rows .now) (buffers (at-start .args
-    .size) (length (at-start .args .rows .now)) (lent (work (at-start .args .visited .now) (at-start .args .cheap .now) (at-start
-    .args .finished .now) (at-start .args .col2row .now) (at-start .args .backstarts .now) (at-start .args .backrows .now)
-    (at-start .args .scol .now) (at-start .args .sat .now)) (outputs (at-start .args .row2col .now) (at-start .args .hall .now)
-    (at-start .args .blockcols .now) (at-start .args .blockstarts .now)))) (passed at-after-enum-told)) .room .0
+block-tested-requires : tie.Need-block-tested-requires
+block-tested-requires c κs =
+    let at-after-enum-told = c .before .before .before .before .before .before .before .before .before .before .before .before in
+    ((passed at-after-enum-told .shaped, passed at-after-enum-told .below), passed at-after-enum-told .room)
 
-check-repeats-requires : tie.Need-check-repeats-requires
-check-repeats-requires c κs =
-    let at-after-clear = c .before .before .before in
-    let at-after-enum-told = at-after-clear .before .before in
-    let at-start = at-after-enum-told .before .before .before .before .before .before .before .before .before .before .before
+cast-clear-work : tie.Need-cast-clear-work
+cast-clear-work c =
+    let at-after-enum-told = c .before .before .before .before .before .before .before .before .before .before .before .before
     .before .before .before .before .before .before .before .before .before .before .before .before .before .before .before
-    .before .before .before .before in (
-      (
-        (early-passed (at-start .args .size) (at-start .args .starts .now) (at-start .args .rows .now) (buffers (at-start .args
-            .size) (length (at-start .args .rows .now)) (lent (work (at-start .args .visited .now) (at-start .args .cheap .now)
-            (at-start
-            .args .finished .now) (at-start .args .col2row .now) (at-start .args .backstarts .now) (at-start .args .backrows .now)
-            (at-start .args .scol .now) (at-start .args .sat .now)) (outputs (at-start .args .row2col .now) (at-start .args .hall
-            .now)
-            (at-start .args .blockcols .now) (at-start .args .blockstarts .now)))) (passed at-after-enum-told)) .shaped,
-        (early-passed
-            (at-start .args .size) (at-start .args .starts .now) (at-start .args .rows .now) (buffers (at-start .args .size) (length
-            (at-start .args .rows .now)) (lent (work (at-start .args .visited .now) (at-start .args .cheap .now) (at-start .args
-            .finished .now) (at-start .args .col2row .now) (at-start .args .backstarts .now) (at-start .args .backrows .now)
-            (at-start
-            .args .scol .now) (at-start .args .sat .now)) (outputs (at-start .args .row2col .now) (at-start .args .hall .now)
-            (at-start
-            .args .blockcols .now) (at-start .args .blockstarts .now)))) (passed at-after-enum-told)) .below,
-      ),
-      (
-        omega (
-          arith,
-          (early-passed (at-start .args .size) (at-start .args .starts .now) (at-start .args .rows .now) (buffers (at-start .args
-              .size) (length (at-start .args .rows .now)) (lent (work (at-start .args .visited .now) (at-start .args .cheap .now)
-              (at-start
-              .args .finished .now) (at-start .args .col2row .now) (at-start .args .backstarts .now) (at-start .args .backrows .now)
-              (at-start .args .scol .now) (at-start .args .sat .now)) (outputs (at-start .args .row2col .now) (at-start .args
-              .hall .now)
-              (at-start .args .blockcols .now) (at-start .args .blockstarts .now)))) (passed at-after-enum-told)) .room .0,
-          at-after-clear
-              .clear .kept,
-        ),
-        rw (at-after-clear .clear .ensures) (zero-below (at-start .args .size) (at-start .args .size) (at-start .args .visited .now)
-            (omega arith)),
-      ),
-    )
-
-enum-known-second : tie.Need-enum-known-second
-enum-known-second c = search needs
+    .before .before .before .before .before .before .before .before .before .before in
+    omega (arith, passed at-after-enum-told .shaped .few)
 
 clear-work-requires : tie.Need-clear-work-requires
 clear-work-requires c κs =
-    let at-after-check-repeats = c .before .before .before .before .before .before .before .before .before .before .before
-    .before .before in
-    let at-after-clear = at-after-check-repeats .before .before .before .before in
-    let at-after-enum-told = at-after-clear .before .before in
+    let at-after-block-tested = c .before .before .before .before .before .before .before .before .before .before .before .before
+    .before .before .before .before .before .before .before .before .before .before .before .before .before .before .before
+    .before .before .before .before .before in
+    let at-after-enum-told = at-after-block-tested .before .before .before .before .before .before .before .before .before
+    .before .before .before .before in
     let at-start = at-after-enum-told .before .before .before .before .before .before .before .before .before .before .before
     .before .before .before .before .before .before .before .before .before .before .before .before .before .before .before
-    .before .before .before .before in (
-      (
-        (early-passed (at-start .args .size) (at-start .args .starts .now) (at-start .args .rows .now) (buffers (at-start .args
-            .size) (length (at-start .args .rows .now)) (lent (work (at-start .args .visited .now) (at-start .args .cheap .now)
-            (at-start
-            .args .finished .now) (at-start .args .col2row .now) (at-start .args .backstarts .now) (at-start .args .backrows .now)
-            (at-start .args .scol .now) (at-start .args .sat .now)) (outputs (at-start .args .row2col .now) (at-start .args .hall
-            .now)
-            (at-start .args .blockcols .now) (at-start .args .blockstarts .now)))) (passed at-after-enum-told)) .shaped .small,
-        (early-passed (at-start .args .size) (at-start .args .starts .now) (at-start .args .rows .now) (buffers (at-start .args
-            .size) (length (at-start .args .rows .now)) (lent (work (at-start .args .visited .now) (at-start .args .cheap .now)
-            (at-start
-            .args .finished .now) (at-start .args .col2row .now) (at-start .args .backstarts .now) (at-start .args .backrows .now)
-            (at-start .args .scol .now) (at-start .args .sat .now)) (outputs (at-start .args .row2col .now) (at-start .args .hall
-            .now)
-            (at-start .args .blockcols .now) (at-start .args .blockstarts .now)))) (passed at-after-enum-told)) .shaped .few,
-      ),
-      (
-        omega (
-          arith,
-          (early-passed (at-start .args .size) (at-start .args .starts .now) (at-start .args .rows .now) (buffers (at-start
-              .args .size) (length (at-start .args .rows .now)) (lent (work (at-start .args .visited .now) (at-start .args .cheap
-              .now)
-              (at-start .args .finished .now) (at-start .args .col2row .now) (at-start .args .backstarts .now) (at-start .args
-              .backrows
-              .now) (at-start .args .scol .now) (at-start .args .sat .now)) (outputs (at-start .args .row2col .now) (at-start
-              .args .hall
-              .now) (at-start .args .blockcols .now) (at-start .args .blockstarts .now)))) (passed at-after-enum-told)) .room .0,
-          at-after-clear .clear .kept,
-          at-after-check-repeats .check-repeats .kept,
-        ),
-        (
-          (early-passed (at-start .args .size) (at-start
-              .args .starts .now) (at-start .args .rows .now) (buffers (at-start .args .size) (length (at-start .args .rows
-              .now)) (lent
-              (work (at-start .args .visited .now) (at-start .args .cheap .now) (at-start .args .finished .now) (at-start .args
-              .col2row
-              .now) (at-start .args .backstarts .now) (at-start .args .backrows .now) (at-start .args .scol .now) (at-start .args
-              .sat
-              .now)) (outputs (at-start .args .row2col .now) (at-start .args .hall .now) (at-start .args .blockcols .now)
-              (at-start .args
-              .blockstarts .now)))) (passed at-after-enum-told)) .room .1 .0,
-          (
-            (early-passed (at-start .args .size) (at-start .args .starts
-                .now) (at-start .args .rows .now) (buffers (at-start .args .size) (length (at-start .args .rows .now)) (lent
-                (work (at-start
-                .args .visited .now) (at-start .args .cheap .now) (at-start .args .finished .now) (at-start .args .col2row .now)
-                (at-start
-                .args .backstarts .now) (at-start .args .backrows .now) (at-start .args .scol .now) (at-start .args .sat .now))
-                (outputs
-                (at-start .args .row2col .now) (at-start .args .hall .now) (at-start .args .blockcols .now) (at-start .args
-                .blockstarts
-                .now)))) (passed at-after-enum-told)) .room .1 .1 .0,
-            (
-              (early-passed (at-start .args .size) (at-start .args .starts .now) (at-start .args .rows .now) (buffers (at-start
-                  .args
-                  .size) (length (at-start .args .rows .now)) (lent (work (at-start .args .visited .now) (at-start .args .cheap
-                  .now) (at-start
-                  .args .finished .now) (at-start .args .col2row .now) (at-start .args .backstarts .now) (at-start .args
-                  .backrows .now)
-                  (at-start .args .scol .now) (at-start .args .sat .now)) (outputs (at-start .args .row2col .now) (at-start .args
-                  .hall .now)
-                  (at-start .args .blockcols .now) (at-start .args .blockstarts .now)))) (passed at-after-enum-told)) .room .1 .1
-                  .1 .0,
-              (
-                (early-passed (at-start .args .size) (at-start .args .starts .now) (at-start .args .rows .now) (buffers (at-start
-                    .args
-                    .size) (length (at-start .args .rows .now)) (lent (work (at-start .args .visited .now) (at-start .args .cheap
-                    .now) (at-start
-                    .args .finished .now) (at-start .args .col2row .now) (at-start .args .backstarts .now) (at-start .args
-                    .backrows .now)
-                    (at-start .args .scol .now) (at-start .args .sat .now)) (outputs (at-start .args .row2col .now) (at-start
-                    .args .hall .now)
-                    (at-start .args .blockcols .now) (at-start .args .blockstarts .now)))) (passed at-after-enum-told)) .room .1
-                    .1 .1 .1 .0,
-                (
-                  (early-passed (at-start .args .size) (at-start .args .starts .now) (at-start .args .rows .now) (buffers
-                      (at-start .args
-                      .size) (length (at-start .args .rows .now)) (lent (work (at-start .args .visited .now) (at-start .args
-                      .cheap .now) (at-start
-                      .args .finished .now) (at-start .args .col2row .now) (at-start .args .backstarts .now) (at-start .args
-                      .backrows .now)
-                      (at-start .args .scol .now) (at-start .args .sat .now)) (outputs (at-start .args .row2col .now) (at-start
-                      .args .hall .now)
-                      (at-start .args .blockcols .now) (at-start .args .blockstarts .now)))) (passed at-after-enum-told)) .room
-                      .1 .1 .1 .1 .1 .0,
-                  (
-                    (early-passed (at-start .args .size) (at-start .args .starts .now) (at-start .args .rows .now) (buffers
-                        (at-start .args
-                        .size) (length (at-start .args .rows .now)) (lent (work (at-start .args .visited .now) (at-start .args
-                        .cheap .now) (at-start
-                        .args .finished .now) (at-start .args .col2row .now) (at-start .args .backstarts .now) (at-start .args
-                        .backrows .now)
-                        (at-start .args .scol .now) (at-start .args .sat .now)) (outputs (at-start .args .row2col .now) (at-start
-                        .args .hall .now)
-                        (at-start .args .blockcols .now) (at-start .args .blockstarts .now)))) (passed at-after-enum-told)) .room
-                        .1 .1 .1 .1 .1 .1 .0,
-                    (
-                      (early-passed (at-start .args .size) (at-start .args .starts .now) (at-start .args .rows .now) (buffers
-                          (at-start .args
-                          .size) (length (at-start .args .rows .now)) (lent (work (at-start .args .visited .now) (at-start .args
-                          .cheap .now) (at-start
-                          .args .finished .now) (at-start .args .col2row .now) (at-start .args .backstarts .now) (at-start .args
-                          .backrows .now)
-                          (at-start .args .scol .now) (at-start .args .sat .now)) (outputs (at-start .args .row2col .now)
-                          (at-start .args .hall .now)
-                          (at-start .args .blockcols .now) (at-start .args .blockstarts .now)))) (passed at-after-enum-told))
-                          .room .1 .1 .1 .1 .1 .1
-                          .1 .0,
-                      tt,
-                    ),
-                  ),
-                ),
-              ),
-            ),
-          ),
-        ),
-      ),
+    .before .before .before .before .before in (
+      passed at-after-enum-told .shaped .small,
+      work-kept (at-start .args .size) (length (at-start .args .rows .now)) (lent-at
+          at-start .inner) (work (at-after-block-tested .block-tested .last .1 .1 .1 .0) (at-after-block-tested .block-tested .last
+          .1 .1 .1 .1 .0) (at-after-block-tested .block-tested .last .1 .1 .1 .1 .1 .0) (at-after-block-tested .block-tested .last
+          .1 .1 .1 .1 .1 .1 .0) (at-after-block-tested .block-tested .last .1 .1 .1 .1 .1 .1 .1 .0)
+          (at-after-block-tested .block-tested .last .1 .1 .1 .1 .1 .1 .1 .1 .0) (at-after-block-tested .block-tested .last .1 .1 .1 .1
+          .1 .1 .1 .1 .1 .0) (at-after-block-tested .block-tested .last .1 .1 .1 .1 .1 .1 .1 .1 .1 .1 .0)) (at-after-block-tested
+          .block-tested .kept .1 .1 .1 .0) (at-after-block-tested .block-tested .kept .1 .1 .1 .1 .0) (at-after-block-tested
+          .block-tested .kept .1 .1 .1 .1 .1 .0) (at-after-block-tested .block-tested .kept .1 .1 .1 .1 .1 .1 .0)
+          (at-after-block-tested .block-tested .kept .1 .1 .1 .1 .1 .1 .1 .0) (at-after-block-tested .block-tested .kept .1 .1 .1 .1 .1
+          .1 .1 .1 .0) (at-after-block-tested .block-tested .kept .1 .1 .1 .1 .1 .1 .1 .1 .1 .0) (at-after-block-tested
+          .block-tested .kept .1 .1 .1 .1 .1 .1 .1 .1 .1 .1 .0)
+          (roomy-split (workBuffers (at-start .args .size) (length (at-start .args .rows .now)) (lent-at at-start .inner))
+          (outputBuffers (at-start .args .size) (lent-at at-start .outer)) (passed at-after-enum-told .room) .0),
     )
 
+same-length-12 : tie.Need-same-length-12
+same-length-12 c =
+    let at-after-clear-work = c .before .before .before .before .before .before .before .before .before .before .before .before
+    .before .before .before .before in
+    let at-after-block-tested = at-after-clear-work .before .before .before .before .before .before .before .before .before
+    .before .before .before .before .before .before .before .before .before .before .before .before .before .before .before
+    .before .before .before .before .before .before .before .before .before in
+    omega (arith, at-after-block-tested .block-tested .kept, at-after-clear-work .clear-work .kept)
+
 same-length-13 : tie.Need-same-length-13
-same-length-13 c = search needs
+same-length-13 c =
+    let at-after-clear-work = c .before .before .before .before .before .before .before .before .before .before .before .before
+    .before .before .before .before in
+    let at-after-block-tested = at-after-clear-work .before .before .before .before .before .before .before .before .before
+    .before .before .before .before .before .before .before .before .before .before .before .before .before .before .before
+    .before .before .before .before .before .before .before .before .before in
+    omega (arith, at-after-block-tested .block-tested .kept, at-after-clear-work .clear-work .kept)
 
 same-length-14 : tie.Need-same-length-14
-same-length-14 c = search needs
+same-length-14 c =
+    let at-after-clear-work = c .before .before .before .before .before .before .before .before .before .before .before .before
+    .before .before .before .before in
+    let at-after-block-tested = at-after-clear-work .before .before .before .before .before .before .before .before .before
+    .before .before .before .before .before .before .before .before .before .before .before .before .before .before .before
+    .before .before .before .before .before .before .before .before .before in
+    omega (arith, at-after-block-tested .block-tested .kept, at-after-clear-work .clear-work .kept)
 
 same-length-15 : tie.Need-same-length-15
-same-length-15 c = search needs
+same-length-15 c =
+    let at-after-clear-work = c .before .before .before .before .before .before .before .before .before .before .before .before
+    .before .before .before .before in
+    let at-after-block-tested = at-after-clear-work .before .before .before .before .before .before .before .before .before
+    .before .before .before .before .before .before .before .before .before .before .before .before .before .before .before
+    .before .before .before .before .before .before .before .before .before in
+    omega (arith, at-after-block-tested .block-tested .kept, at-after-clear-work .clear-work .kept)
 
 same-length-16 : tie.Need-same-length-16
-same-length-16 c = search needs
+same-length-16 c =
+    let at-after-clear-work = c .before .before .before .before .before .before .before .before .before .before .before .before
+    .before .before .before .before in
+    let at-after-block-tested = at-after-clear-work .before .before .before .before .before .before .before .before .before
+    .before .before .before .before .before .before .before .before .before .before .before .before .before .before .before
+    .before .before .before .before .before .before .before .before .before in
+    omega (arith, at-after-block-tested .block-tested .kept, at-after-clear-work .clear-work .kept)
 
 same-length-17 : tie.Need-same-length-17
-same-length-17 c = search needs
+same-length-17 c =
+    let at-after-clear-work = c .before .before .before .before .before .before .before .before .before .before .before .before
+    .before .before .before .before in
+    let at-after-block-tested = at-after-clear-work .before .before .before .before .before .before .before .before .before
+    .before .before .before .before .before .before .before .before .before .before .before .before .before .before .before
+    .before .before .before .before .before .before .before .before .before in
+    omega (arith, at-after-block-tested .block-tested .kept, at-after-clear-work .clear-work .kept)
 
 same-length-18 : tie.Need-same-length-18
-same-length-18 c = search needs
+same-length-18 c =
+    let at-after-clear-work = c .before .before .before .before .before .before .before .before .before .before .before .before
+    .before .before .before .before in
+    let at-after-block-tested = at-after-clear-work .before .before .before .before .before .before .before .before .before
+    .before .before .before .before .before .before .before .before .before .before .before .before .before .before .before
+    .before .before .before .before .before .before .before .before .before in
+    omega (arith, at-after-block-tested .block-tested .kept, at-after-clear-work .clear-work .kept)
 
 same-length-19 : tie.Need-same-length-19
-same-length-19 c = search needs
+same-length-19 c =
+    let at-after-clear-work = c .before .before .before .before .before .before .before .before .before .before .before .before
+    .before .before .before .before in
+    let at-after-block-tested = at-after-clear-work .before .before .before .before .before .before .before .before .before
+    .before .before .before .before .before .before .before .before .before .before .before .before .before .before .before
+    .before .before .before .before .before .before .before .before .before in
+    omega (arith, at-after-block-tested .block-tested .kept, at-after-clear-work .clear-work .kept)
 
 same-length-20 : tie.Need-same-length-20
-same-length-20 c = search needs
+same-length-20 c =
+    let at-after-block-tested = c .before .before .before .before .before .before .before .before .before .before .before .before
+    .before .before .before .before .before .before .before .before .before .before .before .before .before .before .before
+    .before .before .before .before .before .before .before .before .before .before .before .before .before .before .before
+    .before .before .before .before .before .before .before in
+    omega (arith, at-after-block-tested .block-tested .kept)
 
 same-length-21 : tie.Need-same-length-21
-same-length-21 c = search needs
+same-length-21 c =
+    let at-after-block-tested = c .before .before .before .before .before .before .before .before .before .before .before .before
+    .before .before .before .before .before .before .before .before .before .before .before .before .before .before .before
+    .before .before .before .before .before .before .before .before .before .before .before .before .before .before .before
+    .before .before .before .before .before .before .before in
+    omega (arith, at-after-block-tested .block-tested .kept)
 
 same-length-22 : tie.Need-same-length-22
-same-length-22 c = search needs
+same-length-22 c =
+    let at-after-block-tested = c .before .before .before .before .before .before .before .before .before .before .before .before
+    .before .before .before .before .before .before .before .before .before .before .before .before .before .before .before
+    .before .before .before .before .before .before .before .before .before .before .before .before .before .before .before
+    .before .before .before .before .before .before .before in
+    omega (arith, at-after-block-tested .block-tested .kept)
 
 same-length-23 : tie.Need-same-length-23
-same-length-23 c = search needs
-
-same-length-24 : tie.Need-same-length-24
-same-length-24 c = search needs
+same-length-23 c =
+    let at-after-block-tested = c .before .before .before .before .before .before .before .before .before .before .before .before
+    .before .before .before .before .before .before .before .before .before .before .before .before .before .before .before
+    .before .before .before .before .before .before .before .before .before .before .before .before .before .before .before
+    .before .before .before .before .before .before .before in
+    omega (arith, at-after-block-tested .block-tested .kept)
 
 returns-2 : tie.Need-returns-2
 returns-2 c =
     let at-after-clear-work = c .before .before .before .before .before .before .before .before .before .before .before .before
     .before .before .before .before in
-    let at-after-second = at-after-clear-work .before .before .before .before .before .before .before .before .before .before in
-    let at-after-check-repeats = at-after-second .before .before .before .before in
-    let at-after-clear = at-after-check-repeats .before .before .before .before in
-    let at-after-enum-told = at-after-clear .before .before in
-    let at-start = at-after-enum-told .before .before .before .before .before .before .before .before .before .before .before
+    let at-after-block-tested = at-after-clear-work .before .before .before .before .before .before .before .before .before
     .before .before .before .before .before .before .before .before .before .before .before .before .before .before .before
-    .before .before .before .before in (
-      repeat-exit (at-start .args .size) (at-start .args .starts .now) (at-start .args .rows .now) (lent (work (at-start .args
-          .visited .now) (at-start .args .cheap .now) (at-start .args .finished .now) (at-start .args .col2row .now) (at-start .args
-          .backstarts .now) (at-start .args .backrows .now) (at-start .args .scol .now) (at-start .args .sat .now)) (outputs
-          (at-start
-          .args .row2col .now) (at-start .args .hall .now) (at-start .args .blockcols .now) (at-start .args .blockstarts .now))) _ _
-          (passed at-after-enum-told) (sym (at-after-check-repeats .check-repeats .ensures .0) ∙ at-after-second .second .given .1)
-          (at-after-clear-work .clear-work .ensures ∙ (cleared-first (at-start .args .size) (length (at-start .args .rows .now))
-          (work
-          (at-start .args .visited .now) (at-start .args .cheap .now) (at-start .args .finished .now) (at-start .args .col2row .now)
-          (at-start .args .backstarts .now) (at-start .args .backrows .now) (at-start .args .scol .now) (at-start .args .sat
-          .now)) _ _
-          (at-after-clear .clear .ensures) (at-after-check-repeats .check-repeats .ensures .1))),
-      repeat-means (at-start .args .size) (at-start .args .starts .now) (at-start .args .rows .now) (lent (work (at-start .args
-          .visited .now) (at-start .args .cheap .now) (at-start .args .finished .now) (at-start .args .col2row .now) (at-start .args
-          .backstarts .now) (at-start .args .backrows .now) (at-start .args .scol .now) (at-start .args .sat .now)) (outputs
-          (at-start
-          .args .row2col .now) (at-start .args .hall .now) (at-start .args .blockcols .now) (at-start .args .blockstarts .now))) _ _
-          (sym (at-after-check-repeats .check-repeats .ensures .0) ∙ at-after-second .second .given .1),
-    )
-
-enum-told-2 : tie.Need-enum-told-2
-enum-told-2 c = search needs
-
-block-valid-requires : tie.Need-block-valid-requires
-block-valid-requires c κs =
-    let at-after-enum-told2 = c .before .before .before .before .before .before .before .before .before .before .before .before in
-    let at-after-check-repeats = at-after-enum-told2 .before .before .before .before in
-    let at-after-clear = at-after-check-repeats .before .before .before .before in
-    let at-after-enum-told = at-after-clear .before .before in
+    .before .before .before .before .before .before .before .before .before in
+    let at-after-enum-told = at-after-block-tested .before .before .before .before .before .before .before .before .before
+    .before .before .before .before in
     let at-start = at-after-enum-told .before .before .before .before .before .before .before .before .before .before .before
-    .before .before .before .before .before .before .before .before .before .before .before .before .before .before .before
-    .before .before .before .before in (
-      record {
-        valid = given {l = (lent (work (at-start .args .visited .now) (at-start .args .cheap .now) (at-start .args
-            .finished .now) (at-start .args .col2row .now) (at-start .args .backstarts .now) (at-start .args .backrows .now)
-            (at-start
-            .args .scol .now) (at-start .args .sat .now)) (outputs (at-start .args .row2col .now) (at-start .args .hall .now)
-            (at-start
-            .args .blockcols .now) (at-start .args .blockstarts .now)))} (early-passed (at-start .args .size) (at-start .args
-            .starts
-            .now) (at-start .args .rows .now) (buffers (at-start .args .size) (length (at-start .args .rows .now)) (lent (work
-            (at-start
-            .args .visited .now) (at-start .args .cheap .now) (at-start .args .finished .now) (at-start .args .col2row .now)
-            (at-start
-            .args .backstarts .now) (at-start .args .backrows .now) (at-start .args .scol .now) (at-start .args .sat .now)) (outputs
-            (at-start .args .row2col .now) (at-start .args .hall .now) (at-start .args .blockcols .now) (at-start .args .blockstarts
-            .now)))) (passed at-after-enum-told)) (once at-after-enum-told2) .valid;
-        room = (
-          omega (
-            arith,
-            (early-passed (at-start .args .size) (at-start .args .starts .now) (at-start .args .rows .now) (buffers
-                (at-start .args .size) (length (at-start .args .rows .now)) (lent (work (at-start .args .visited .now) (at-start
-                .args .cheap
-                .now) (at-start .args .finished .now) (at-start .args .col2row .now) (at-start .args .backstarts .now) (at-start
-                .args
-                .backrows .now) (at-start .args .scol .now) (at-start .args .sat .now)) (outputs (at-start .args .row2col .now)
-                (at-start
-                .args .hall .now) (at-start .args .blockcols .now) (at-start .args .blockstarts .now)))) (passed
-                at-after-enum-told)) .room
-                .0,
-            at-after-clear .clear .kept,
-            at-after-check-repeats .check-repeats .kept,
-          ),
-          (early-passed (at-start .args .size) (at-start
-              .args .starts .now) (at-start .args .rows .now) (buffers (at-start .args .size) (length (at-start .args .rows
-              .now)) (lent
-              (work (at-start .args .visited .now) (at-start .args .cheap .now) (at-start .args .finished .now) (at-start .args
-              .col2row
-              .now) (at-start .args .backstarts .now) (at-start .args .backrows .now) (at-start .args .scol .now) (at-start .args
-              .sat
-              .now)) (outputs (at-start .args .row2col .now) (at-start .args .hall .now) (at-start .args .blockcols .now)
-              (at-start .args
-              .blockstarts .now)))) (passed at-after-enum-told)) .room .1,
-        );
-      },
-      rw (at-after-check-repeats .check-repeats .ensures .1, at-after-clear .clear .ensures) (zero-below (at-start .args .size)
-          (at-start .args .size) (at-start .args .visited .now) (omega arith)),
-    )
-
-clear-work-requires-2 : tie.Need-clear-work-requires-2
-clear-work-requires-2 c κs =
-    let at-after-block-valid = c .before .before .before .before .before .before .before .before .before .before .before .before
     .before .before .before .before .before .before .before .before .before .before .before .before .before .before .before
     .before .before .before .before .before in
-    let at-after-check-repeats = at-after-block-valid .before .before .before .before .before .before .before .before .before
-    .before .before .before .before .before .before .before .before in
-    let at-after-clear = at-after-check-repeats .before .before .before .before in
-    let at-after-enum-told = at-after-clear .before .before in
-    let at-start = at-after-enum-told .before .before .before .before .before .before .before .before .before .before .before
-    .before .before .before .before .before .before .before .before .before .before .before .before .before .before .before
-    .before .before .before .before in (
-      (
-        (early-passed (at-start .args .size) (at-start .args .starts .now) (at-start .args .rows .now) (buffers (at-start .args
-            .size) (length (at-start .args .rows .now)) (lent (work (at-start .args .visited .now) (at-start .args .cheap .now)
-            (at-start
-            .args .finished .now) (at-start .args .col2row .now) (at-start .args .backstarts .now) (at-start .args .backrows .now)
-            (at-start .args .scol .now) (at-start .args .sat .now)) (outputs (at-start .args .row2col .now) (at-start .args .hall
-            .now)
-            (at-start .args .blockcols .now) (at-start .args .blockstarts .now)))) (passed at-after-enum-told)) .shaped .small,
-        (early-passed (at-start .args .size) (at-start .args .starts .now) (at-start .args .rows .now) (buffers (at-start .args
-            .size) (length (at-start .args .rows .now)) (lent (work (at-start .args .visited .now) (at-start .args .cheap .now)
-            (at-start
-            .args .finished .now) (at-start .args .col2row .now) (at-start .args .backstarts .now) (at-start .args .backrows .now)
-            (at-start .args .scol .now) (at-start .args .sat .now)) (outputs (at-start .args .row2col .now) (at-start .args .hall
-            .now)
-            (at-start .args .blockcols .now) (at-start .args .blockstarts .now)))) (passed at-after-enum-told)) .shaped .few,
-      ),
-      (
-        omega (
-          arith,
-          (early-passed (at-start .args .size) (at-start .args .starts .now) (at-start .args .rows .now) (buffers (at-start
-              .args .size) (length (at-start .args .rows .now)) (lent (work (at-start .args .visited .now) (at-start .args .cheap
-              .now)
-              (at-start .args .finished .now) (at-start .args .col2row .now) (at-start .args .backstarts .now) (at-start .args
-              .backrows
-              .now) (at-start .args .scol .now) (at-start .args .sat .now)) (outputs (at-start .args .row2col .now) (at-start
-              .args .hall
-              .now) (at-start .args .blockcols .now) (at-start .args .blockstarts .now)))) (passed at-after-enum-told)) .room .0,
-          at-after-clear .clear .kept,
-          at-after-check-repeats .check-repeats .kept,
-          at-after-block-valid .block-valid .kept,
-        ),
-        (
-          omega (
-            arith,
-            (early-passed (at-start .args .size) (at-start .args .starts .now) (at-start .args .rows .now) (buffers
-                (at-start .args .size) (length (at-start .args .rows .now)) (lent (work (at-start .args .visited .now) (at-start
-                .args .cheap
-                .now) (at-start .args .finished .now) (at-start .args .col2row .now) (at-start .args .backstarts .now) (at-start
-                .args
-                .backrows .now) (at-start .args .scol .now) (at-start .args .sat .now)) (outputs (at-start .args .row2col .now)
-                (at-start
-                .args .hall .now) (at-start .args .blockcols .now) (at-start .args .blockstarts .now)))) (passed
-                at-after-enum-told)) .room
-                .1 .0,
-            at-after-block-valid .block-valid .kept,
-          ),
-          (
-            omega (
-              arith,
-              (early-passed (at-start .args .size) (at-start .args .starts
-                  .now) (at-start .args .rows .now) (buffers (at-start .args .size) (length (at-start .args .rows .now)) (lent
-                  (work (at-start
-                  .args .visited .now) (at-start .args .cheap .now) (at-start .args .finished .now) (at-start .args .col2row
-                  .now) (at-start
-                  .args .backstarts .now) (at-start .args .backrows .now) (at-start .args .scol .now) (at-start .args .sat .now))
-                  (outputs
-                  (at-start .args .row2col .now) (at-start .args .hall .now) (at-start .args .blockcols .now) (at-start .args
-                  .blockstarts
-                  .now)))) (passed at-after-enum-told)) .room .1 .1 .0,
-              at-after-block-valid .block-valid .kept,
-            ),
-            (
-              omega (
-                arith,
-                (early-passed
-                    (at-start .args .size) (at-start .args .starts .now) (at-start .args .rows .now) (buffers (at-start .args
-                    .size) (length
-                    (at-start .args .rows .now)) (lent (work (at-start .args .visited .now) (at-start .args .cheap .now)
-                    (at-start .args
-                    .finished .now) (at-start .args .col2row .now) (at-start .args .backstarts .now) (at-start .args .backrows
-                    .now) (at-start
-                    .args .scol .now) (at-start .args .sat .now)) (outputs (at-start .args .row2col .now) (at-start .args .hall
-                    .now) (at-start
-                    .args .blockcols .now) (at-start .args .blockstarts .now)))) (passed at-after-enum-told)) .room .1 .1 .1 .0,
-                at-after-block-valid .block-valid .kept,
-              ),
-              (
-                omega (
-                  arith,
-                  (early-passed (at-start .args .size) (at-start .args .starts .now) (at-start .args .rows .now) (buffers
-                      (at-start .args .size) (length (at-start .args .rows .now)) (lent (work (at-start .args .visited .now)
-                      (at-start .args .cheap
-                      .now) (at-start .args .finished .now) (at-start .args .col2row .now) (at-start .args .backstarts .now)
-                      (at-start .args
-                      .backrows .now) (at-start .args .scol .now) (at-start .args .sat .now)) (outputs (at-start .args .row2col
-                      .now) (at-start
-                      .args .hall .now) (at-start .args .blockcols .now) (at-start .args .blockstarts .now)))) (passed
-                      at-after-enum-told)) .room
-                      .1 .1 .1 .1 .0,
-                  at-after-block-valid .block-valid .kept,
-                ),
-                (
-                  omega (
-                    arith,
-                    (early-passed (at-start .args .size) (at-start .args
-                        .starts .now) (at-start .args .rows .now) (buffers (at-start .args .size) (length (at-start .args .rows
-                        .now)) (lent (work
-                        (at-start .args .visited .now) (at-start .args .cheap .now) (at-start .args .finished .now) (at-start
-                        .args .col2row .now)
-                        (at-start .args .backstarts .now) (at-start .args .backrows .now) (at-start .args .scol .now) (at-start
-                        .args .sat .now))
-                        (outputs (at-start .args .row2col .now) (at-start .args .hall .now) (at-start .args .blockcols .now)
-                        (at-start .args
-                        .blockstarts .now)))) (passed at-after-enum-told)) .room .1 .1 .1 .1 .1 .0,
-                    at-after-block-valid .block-valid .kept,
-                  ),
-                  (
-                    omega (
-                      arith,
-                      (early-passed (at-start .args .size) (at-start .args .starts .now) (at-start .args .rows .now) (buffers
-                          (at-start .args .size) (length (at-start .args .rows .now)) (lent (work (at-start .args .visited .now)
-                          (at-start .args .cheap
-                          .now) (at-start .args .finished .now) (at-start .args .col2row .now) (at-start .args .backstarts .now)
-                          (at-start .args
-                          .backrows .now) (at-start .args .scol .now) (at-start .args .sat .now)) (outputs (at-start .args
-                          .row2col .now) (at-start
-                          .args .hall .now) (at-start .args .blockcols .now) (at-start .args .blockstarts .now)))) (passed
-                          at-after-enum-told)) .room
-                          .1 .1 .1 .1 .1 .1 .0,
-                      at-after-block-valid .block-valid .kept,
-                    ),
-                    (
-                      omega (
-                        arith,
-                        (early-passed (at-start .args .size) (at-start
-                            .args .starts .now) (at-start .args .rows .now) (buffers (at-start .args .size) (length (at-start
-                            .args .rows .now)) (lent
-                            (work (at-start .args .visited .now) (at-start .args .cheap .now) (at-start .args .finished .now)
-                            (at-start .args .col2row
-                            .now) (at-start .args .backstarts .now) (at-start .args .backrows .now) (at-start .args .scol .now)
-                            (at-start .args .sat
-                            .now)) (outputs (at-start .args .row2col .now) (at-start .args .hall .now) (at-start .args .blockcols
-                            .now) (at-start .args
-                            .blockstarts .now)))) (passed at-after-enum-told)) .room .1 .1 .1 .1 .1 .1 .1 .0,
-                        at-after-block-valid .block-valid .kept,
-                      ),
-                      tt,
-                    ),
-                  ),
-                ),
-              ),
-            ),
-          ),
-        ),
-      ),
-    )
-
-same-length-25 : tie.Need-same-length-25
-same-length-25 c =
-    let at-after-clear-work2 = c .before .before .before .before .before .before .before .before .before .before .before .before
-    .before .before .before .before in
-    let at-after-block-valid = at-after-clear-work2 .before .before .before .before .before .before .before .before .before
-    .before .before .before .before .before .before .before .before .before .before .before .before .before .before .before
-    .before .before .before .before .before .before .before .before .before in
-    let at-after-check-repeats = at-after-block-valid .before .before .before .before .before .before .before .before .before
-    .before .before .before .before .before .before .before .before in
-    let at-after-clear = at-after-check-repeats .before .before .before .before in
-    omega (
-      arith,
-      at-after-clear .clear .kept,
-      at-after-check-repeats .check-repeats .kept,
-      at-after-block-valid .block-valid
-          .kept,
-      at-after-clear-work2 .clear-work2 .kept,
-    )
-
-same-length-26 : tie.Need-same-length-26
-same-length-26 c =
-    let at-after-clear-work2 = c .before .before .before .before .before .before .before .before .before .before .before .before
-    .before .before .before .before in
-    let at-after-block-valid = at-after-clear-work2 .before .before .before .before .before .before .before .before .before
-    .before .before .before .before .before .before .before .before .before .before .before .before .before .before .before
-    .before .before .before .before .before .before .before .before .before in
-    let at-after-check-repeats = at-after-block-valid .before .before .before .before .before .before .before .before .before
-    .before .before .before .before .before .before .before .before in
-    let at-after-clear = at-after-check-repeats .before .before .before .before in
-    omega (
-      arith,
-      at-after-clear .clear .kept,
-      at-after-check-repeats .check-repeats .kept,
-      at-after-block-valid .block-valid
-          .kept,
-      at-after-clear-work2 .clear-work2 .kept,
-    )
-
-same-length-27 : tie.Need-same-length-27
-same-length-27 c =
-    let at-after-clear-work2 = c .before .before .before .before .before .before .before .before .before .before .before .before
-    .before .before .before .before in
-    let at-after-block-valid = at-after-clear-work2 .before .before .before .before .before .before .before .before .before
-    .before .before .before .before .before .before .before .before .before .before .before .before .before .before .before
-    .before .before .before .before .before .before .before .before .before in
-    let at-after-check-repeats = at-after-block-valid .before .before .before .before .before .before .before .before .before
-    .before .before .before .before .before .before .before .before in
-    let at-after-clear = at-after-check-repeats .before .before .before .before in
-    omega (
-      arith,
-      at-after-clear .clear .kept,
-      at-after-check-repeats .check-repeats .kept,
-      at-after-block-valid .block-valid
-          .kept,
-      at-after-clear-work2 .clear-work2 .kept,
-    )
-
-same-length-28 : tie.Need-same-length-28
-same-length-28 c =
-    let at-after-clear-work2 = c .before .before .before .before .before .before .before .before .before .before .before .before
-    .before .before .before .before in
-    let at-after-block-valid = at-after-clear-work2 .before .before .before .before .before .before .before .before .before
-    .before .before .before .before .before .before .before .before .before .before .before .before .before .before .before
-    .before .before .before .before .before .before .before .before .before in
-    let at-after-check-repeats = at-after-block-valid .before .before .before .before .before .before .before .before .before
-    .before .before .before .before .before .before .before .before in
-    let at-after-clear = at-after-check-repeats .before .before .before .before in
-    omega (
-      arith,
-      at-after-clear .clear .kept,
-      at-after-check-repeats .check-repeats .kept,
-      at-after-block-valid .block-valid
-          .kept,
-      at-after-clear-work2 .clear-work2 .kept,
-    )
-
-same-length-29 : tie.Need-same-length-29
-same-length-29 c =
-    let at-after-clear-work2 = c .before .before .before .before .before .before .before .before .before .before .before .before
-    .before .before .before .before in
-    let at-after-block-valid = at-after-clear-work2 .before .before .before .before .before .before .before .before .before
-    .before .before .before .before .before .before .before .before .before .before .before .before .before .before .before
-    .before .before .before .before .before .before .before .before .before in
-    let at-after-check-repeats = at-after-block-valid .before .before .before .before .before .before .before .before .before
-    .before .before .before .before .before .before .before .before in
-    let at-after-clear = at-after-check-repeats .before .before .before .before in
-    omega (
-      arith,
-      at-after-clear .clear .kept,
-      at-after-check-repeats .check-repeats .kept,
-      at-after-block-valid .block-valid
-          .kept,
-      at-after-clear-work2 .clear-work2 .kept,
-    )
-
-same-length-30 : tie.Need-same-length-30
-same-length-30 c =
-    let at-after-clear-work2 = c .before .before .before .before .before .before .before .before .before .before .before .before
-    .before .before .before .before in
-    let at-after-block-valid = at-after-clear-work2 .before .before .before .before .before .before .before .before .before
-    .before .before .before .before .before .before .before .before .before .before .before .before .before .before .before
-    .before .before .before .before .before .before .before .before .before in
-    let at-after-check-repeats = at-after-block-valid .before .before .before .before .before .before .before .before .before
-    .before .before .before .before .before .before .before .before in
-    let at-after-clear = at-after-check-repeats .before .before .before .before in
-    omega (
-      arith,
-      at-after-clear .clear .kept,
-      at-after-check-repeats .check-repeats .kept,
-      at-after-block-valid .block-valid
-          .kept,
-      at-after-clear-work2 .clear-work2 .kept,
-    )
-
-same-length-31 : tie.Need-same-length-31
-same-length-31 c =
-    let at-after-clear-work2 = c .before .before .before .before .before .before .before .before .before .before .before .before
-    .before .before .before .before in
-    let at-after-block-valid = at-after-clear-work2 .before .before .before .before .before .before .before .before .before
-    .before .before .before .before .before .before .before .before .before .before .before .before .before .before .before
-    .before .before .before .before .before .before .before .before .before in
-    let at-after-check-repeats = at-after-block-valid .before .before .before .before .before .before .before .before .before
-    .before .before .before .before .before .before .before .before in
-    let at-after-clear = at-after-check-repeats .before .before .before .before in
-    omega (
-      arith,
-      at-after-clear .clear .kept,
-      at-after-check-repeats .check-repeats .kept,
-      at-after-block-valid .block-valid
-          .kept,
-      at-after-clear-work2 .clear-work2 .kept,
-    )
-
-same-length-32 : tie.Need-same-length-32
-same-length-32 c =
-    let at-after-clear-work2 = c .before .before .before .before .before .before .before .before .before .before .before .before
-    .before .before .before .before in
-    let at-after-block-valid = at-after-clear-work2 .before .before .before .before .before .before .before .before .before
-    .before .before .before .before .before .before .before .before .before .before .before .before .before .before .before
-    .before .before .before .before .before .before .before .before .before in
-    let at-after-check-repeats = at-after-block-valid .before .before .before .before .before .before .before .before .before
-    .before .before .before .before .before .before .before .before in
-    let at-after-clear = at-after-check-repeats .before .before .before .before in
-    omega (
-      arith,
-      at-after-clear .clear .kept,
-      at-after-check-repeats .check-repeats .kept,
-      at-after-block-valid .block-valid
-          .kept,
-      at-after-clear-work2 .clear-work2 .kept,
-    )
-
-same-length-33 : tie.Need-same-length-33
-same-length-33 c =
-    let at-after-clear-work2 = c .before .before .before .before .before .before .before .before .before .before .before .before
-    .before .before .before .before in
-    let at-after-block-valid = at-after-clear-work2 .before .before .before .before .before .before .before .before .before
-    .before .before .before .before .before .before .before .before .before .before .before .before .before .before .before
-    .before .before .before .before .before .before .before .before .before in
-    let at-after-check-repeats = at-after-block-valid .before .before .before .before .before .before .before .before .before
-    .before .before .before .before .before .before .before .before in
-    let at-after-clear = at-after-check-repeats .before .before .before .before in
-    omega (
-      arith,
-      at-after-clear .clear .kept,
-      at-after-check-repeats .check-repeats .kept,
-      at-after-block-valid .block-valid
-          .kept,
-      at-after-clear-work2 .clear-work2 .kept,
-    )
-
-same-length-34 : tie.Need-same-length-34
-same-length-34 c =
-    let at-after-clear-work2 = c .before .before .before .before .before .before .before .before .before .before .before .before
-    .before .before .before .before in
-    let at-after-block-valid = at-after-clear-work2 .before .before .before .before .before .before .before .before .before
-    .before .before .before .before .before .before .before .before .before .before .before .before .before .before .before
-    .before .before .before .before .before .before .before .before .before in
-    let at-after-check-repeats = at-after-block-valid .before .before .before .before .before .before .before .before .before
-    .before .before .before .before .before .before .before .before in
-    let at-after-clear = at-after-check-repeats .before .before .before .before in
-    omega (
-      arith,
-      at-after-clear .clear .kept,
-      at-after-check-repeats .check-repeats .kept,
-      at-after-block-valid .block-valid
-          .kept,
-      at-after-clear-work2 .clear-work2 .kept,
-    )
-
-same-length-35 : tie.Need-same-length-35
-same-length-35 c =
-    let at-after-clear-work2 = c .before .before .before .before .before .before .before .before .before .before .before .before
-    .before .before .before .before in
-    let at-after-block-valid = at-after-clear-work2 .before .before .before .before .before .before .before .before .before
-    .before .before .before .before .before .before .before .before .before .before .before .before .before .before .before
-    .before .before .before .before .before .before .before .before .before in
-    let at-after-check-repeats = at-after-block-valid .before .before .before .before .before .before .before .before .before
-    .before .before .before .before .before .before .before .before in
-    let at-after-clear = at-after-check-repeats .before .before .before .before in
-    omega (
-      arith,
-      at-after-clear .clear .kept,
-      at-after-check-repeats .check-repeats .kept,
-      at-after-block-valid .block-valid
-          .kept,
-      at-after-clear-work2 .clear-work2 .kept,
-    )
-
-same-length-36 : tie.Need-same-length-36
-same-length-36 c = search needs
-
-returns-3 : tie.Need-returns-3
-returns-3 c =
-    let at-after-clear-work2 = c .before .before .before .before .before .before .before .before .before .before .before .before
-    .before .before .before .before in
-    let at-after-block-valid = at-after-clear-work2 .before .before .before .before .before .before .before .before .before
-    .before .before .before .before .before .before .before .before .before .before .before .before .before .before .before
-    .before .before .before .before .before .before .before .before .before in
-    let at-after-enum-told2 = at-after-block-valid .before .before .before .before .before .before .before .before .before
-    .before .before .before .before in
-    let at-after-check-repeats = at-after-enum-told2 .before .before .before .before in
-    let at-after-clear = at-after-check-repeats .before .before .before .before in
-    let at-after-enum-told = at-after-clear .before .before in
-    let at-start = at-after-enum-told .before .before .before .before .before .before .before .before .before .before .before
-    .before .before .before .before .before .before .before .before .before .before .before .before .before .before .before
-    .before .before .before .before in
-    verdict-exit (at-start .args .size) (at-start .args .starts .now) (at-start .args .rows .now) (lent (work (at-start .args
-    .visited .now) (at-start .args .cheap .now) (at-start .args .finished .now) (at-start .args .col2row .now) (at-start .args
-    .backstarts .now) (at-start .args .backrows .now) (at-start .args .scol .now) (at-start .args .sat .now)) (outputs (at-start
-    .args .row2col .now) (at-start .args .hall .now) (at-start .args .blockcols .now) (at-start .args .blockstarts .now))) _ _ _
-    (passed at-after-enum-told) (once at-after-enum-told2)
-    (at-after-clear-work2 .clear-work2 .ensures ∙ at-after-block-valid .block-valid .ensures .1 ∙ (cleared-first (at-start .args
-    .size) (length (at-start .args .rows .now)) (work (at-start .args .visited .now) (at-start .args .cheap .now) (at-start .args
-    .finished .now) (at-start .args .col2row .now) (at-start .args .backstarts .now) (at-start .args .backrows .now) (at-start
-    .args .scol .now) (at-start .args .sat .now)) _ _ (at-after-clear .clear .ensures) (at-after-check-repeats .check-repeats
-    .ensures .1))) (at-after-block-valid .block-valid .ensures .0)
+    tested-exit (at-start .args .size) (at-start .args .starts .now) (at-start .args .rows .now) (lent-at at-start) (work _ _ _ _
+    _ _ _ _) (outputs _ _ _ _) _ (none-refused at-after-enum-told)
+    (at-after-clear-work .clear-work .ensures ∙ at-after-block-tested .block-tested .ensures .1) (at-after-block-tested
+    .block-tested .ensures .0)
 
 pub find-block-diag-form-spec : {M : Type 1} → statement M
 find-block-diag-form-spec =
     tie.close
     (tie.spec
+    entries-need-requires
+    is-less-requires
     lacks-room-requires
     check-early-requires
     enum-known-first
@@ -894,13 +314,12 @@ find-block-diag-form-spec =
     same-length-9
     same-length-10
     same-length-11
-    same-length-12
     returns
     enum-told
-    clear-requires
-    check-repeats-requires
-    enum-known-second
+    block-tested-requires
+    cast-clear-work
     clear-work-requires
+    same-length-12
     same-length-13
     same-length-14
     same-length-15
@@ -912,21 +331,4 @@ find-block-diag-form-spec =
     same-length-21
     same-length-22
     same-length-23
-    same-length-24
-    returns-2
-    enum-told-2
-    block-valid-requires
-    clear-work-requires-2
-    same-length-25
-    same-length-26
-    same-length-27
-    same-length-28
-    same-length-29
-    same-length-30
-    same-length-31
-    same-length-32
-    same-length-33
-    same-length-34
-    same-length-35
-    same-length-36
-    returns-3)
+    returns-2)

@@ -1,16 +1,15 @@
 -- `clear_work` meets its contract: each slice is cleared in turn.
-use Rattle.triangular.proofs.Room.{cleared-all}
-use lib.ListN.{length}
 use native.Mathlib.Omega.{arith}
+use Rattle.triangular.proofs.Room.{cleared-all}
 use borrow.Author.Needs.{needs}
 use Rattle.triangular.proofs.form.clear_work.Statement.{statement}
 use Rattle.triangular.proofs.form.clear_work.Tie as tie
 use Rattle.triangular.proofs.form.clear_work.Reads as reads
 use Rattle.triangular.proofs.form.clear_work.Lts as lts
+use Rattle.sparse.proofs.slices.clear.Reads as clear-reads
 use Rattle.triangular.proofs.form.entries_need.Reads as entries-need-reads
 use Rattle.triangular.proofs.form.form_need.Reads as form-need-reads
 use Rattle.triangular.proofs.form.starts_need.Reads as starts-need-reads
-use Rattle.sparse.proofs.slices.clear.Reads as clear-reads
 
 form-need-requires : tie.Need-form-need-requires
 form-need-requires c κs = search needs
@@ -46,14 +45,14 @@ clear-requires-6 : tie.Need-clear-requires-6
 clear-requires-6 c κs =
     let at-start = c .before .before .before .before .before .before .before .before .before .before .before .before .before
     .before .before .before .before .before .before .before .before .before .before .before .before .before .before .before
-    .before .before .before .before .before in
+    .before .before .before .before in
     omega (arith, at-start .pre .1 .1 .1 .1 .1 .1 .0, c .entries-need .ensures)
 
 clear-requires-7 : tie.Need-clear-requires-7
 clear-requires-7 c κs =
     let at-after-form-need = c .before .before .before .before .before .before .before .before .before .before .before .before
     .before .before .before .before .before .before .before .before .before .before .before .before .before .before .before in
-    let at-start = at-after-form-need .before .before .before .before .before .before .before .before .before .before in
+    let at-start = at-after-form-need .before .before .before .before .before .before .before .before .before in
     omega (arith, at-start .pre .1 .1 .1 .1 .1 .1 .1 .0, at-after-form-need .form-need .ensures)
 
 clear-requires-8 : tie.Need-clear-requires-8
@@ -61,7 +60,7 @@ clear-requires-8 c κs =
     let at-after-form-need = c .before .before .before .before .before .before .before .before .before .before .before .before
     .before .before .before .before .before .before .before .before .before .before .before .before .before .before .before
     .before .before .before .before in
-    let at-start = at-after-form-need .before .before .before .before .before .before .before .before .before .before in
+    let at-start = at-after-form-need .before .before .before .before .before .before .before .before .before in
     omega (arith, at-start .pre .1 .1 .1 .1 .1 .1 .1 .1 .0, at-after-form-need .form-need .ensures)
 
 same-length : tie.Need-same-length
@@ -101,8 +100,8 @@ returns c =
     let at-after-clear2 = at-after-clear3 .before .before .before .before in
     let at-after-clear = at-after-clear2 .before .before .before .before in
     let at-after-form-need = at-after-clear .before .before in
-    let at-start = at-after-form-need .before .before .before .before .before .before .before .before .before .before in
-    cleared-all (at-start .args .size) (length (at-start .args .rows .now)) _ _ _ _ _ _ _ _ _ _ _ _ _ _ _ _ _ _ _
+    let at-start = at-after-form-need .before .before .before .before .before .before .before .before .before in
+    cleared-all (at-start .args .size) (at-start .args .entries) _ _ _ _ _ _ _ _ _ _ _ _ _ _ _ _ _ _ _
     (at-after-form-need .form-need .ensures)
     (at-after-clear .clear .ensures) (at-after-clear2 .clear2 .ensures) (at-after-clear3 .clear3 .ensures) (at-after-clear4
     .clear4 .ensures)

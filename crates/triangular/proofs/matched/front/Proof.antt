@@ -4,10 +4,10 @@ use lib.ListN.{take}
 use mathlib.Core.Path.{_≡_, ap}
 use native.Mathlib.Omega.{arith}
 use borrow.Author.Needs.{needs}
-use Rattle.triangular.proofs.entry.front.Statement.{statement}
-use Rattle.triangular.proofs.entry.front.Tie as tie
-use Rattle.triangular.proofs.entry.front.Reads as reads
-use Rattle.triangular.proofs.entry.front.Lts as lts
+use Rattle.triangular.proofs.matched.front.Statement.{statement}
+use Rattle.triangular.proofs.matched.front.Tie as tie
+use Rattle.triangular.proofs.matched.front.Reads as reads
+use Rattle.triangular.proofs.matched.front.Lts as lts
 
 sub-result : tie.Need-sub-result
 sub-result c = search needs

@@ -1,15 +1,15 @@
 -- `block_matched` meets its contract: what each part leaves is what the next needs.
 use Rattle.blocks.proofs.Joined.{finished-ready}
-use Rattle.triangular.proofs.Matched.{first-ready, inverse-filled, reverse-room, second-shaped, second-ready, matched-holds}
-use Rattle.triangular.proofs.Matched.{matched-same}
+use Rattle.triangular.proofs.UnderMatching.{first-ready, inverse-filled, reverse-room, second-shaped, second-ready, matched-holds}
+use Rattle.triangular.proofs.UnderMatching.{matched-same}
 use native.Mathlib.Omega.{arith}
 use borrow.Author.Needs.{needs}
-use Rattle.triangular.proofs.entry.block_matched.Statement.{statement}
-use Rattle.triangular.proofs.entry.block_matched.Tie as tie
-use Rattle.triangular.proofs.entry.block_matched.Reads as reads
-use Rattle.triangular.proofs.entry.block_matched.Lts as lts
+use Rattle.triangular.proofs.matched.block_matched.Statement.{statement}
+use Rattle.triangular.proofs.matched.block_matched.Tie as tie
+use Rattle.triangular.proofs.matched.block_matched.Reads as reads
+use Rattle.triangular.proofs.matched.block_matched.Lts as lts
 use Rattle.blocks.proofs.cut.finish_columns.Reads as finish-columns-reads
-use Rattle.triangular.proofs.entry.cut_matched.Reads as cut-matched-reads
+use Rattle.triangular.proofs.matched.cut_matched.Reads as cut-matched-reads
 use Rattle.triangular.proofs.form.invert_matching.Reads as invert-matching-reads
 use Rattle.blocks.proofs.reverse.reverse_graph.Reads as reverse-graph-reads
 use Rattle.sparse.proofs.slices.clear.Reads as clear-reads

@@ -1,11 +1,11 @@
 -- `cut_matched` meets its contract: the parts are the fronts of the two slices.
 use borrow.Author.Needs.{needs}
-use Rattle.triangular.proofs.entry.cut_matched.Statement.{statement}
-use Rattle.triangular.proofs.entry.cut_matched.Tie as tie
-use Rattle.triangular.proofs.entry.cut_matched.Reads as reads
-use Rattle.triangular.proofs.entry.cut_matched.Lts as lts
+use Rattle.triangular.proofs.matched.cut_matched.Statement.{statement}
+use Rattle.triangular.proofs.matched.cut_matched.Tie as tie
+use Rattle.triangular.proofs.matched.cut_matched.Reads as reads
+use Rattle.triangular.proofs.matched.cut_matched.Lts as lts
 use Rattle.blocks.proofs.cut.cut_blocks.Reads as cut-blocks-reads
-use Rattle.triangular.proofs.entry.front.Reads as front-reads
+use Rattle.triangular.proofs.matched.front.Reads as front-reads
 use Rattle.sparse.proofs.slices.get.Reads as get-reads
 
 add-front : tie.Need-add-front
