@@ -1,5 +1,7 @@
 // What a case of every kind begins with: size, entries, the starts, the rows, answer, place. The lists of its kind follow.
 ghost use Prim.Native.Nat.{_+_, _≤_};
+use super::lists::differs;
+use super::lists::either;
 use super::lists::number_or;
 use super::lists::part;
 use sparse::checks::or;
@@ -11,6 +13,9 @@ const MAX_ENTRIES: u32 = 4096;
 
 // Of each lent buffer something lies beyond the largest size.
 pub const LENT: usize = 72;
+
+// The same for a buffer that goes by entries: something lies beyond the most of them.
+pub const LENT_ENTRIES: usize = 4104;
 
 // The stored numbers of a case, and the place after them, where its lists begin. All are 0 where it is over a limit.
 pub struct Case {
@@ -70,11 +75,28 @@ pub fn is_other(case: Case, answer: u32, place: u32) -> bool {
     or(case.answer != answer, case.place != place)
 }
 
-// How many numbers of each workspace slice become zero. Refusals 1, 2, 5 and 3 leave every buffer as it is.
-pub fn cleared(case: Case) -> usize {
+// How many numbers of a workspace slice with this need become zero. Refusals 1, 2, 5 and 3 leave every buffer as it is.
+pub fn cleared(case: Case, need: usize) -> usize {
     let answer = case.answer;
     match answer {
         1 | 2 | 3 | 5 => 0,
-        _ => case.size as usize,
+        _ => need,
     }
+}
+
+// How many numbers are stored of a list with this need that only acceptance has.
+pub fn listed_accepted(case: Case, need: usize) -> usize
+    ensures { λ r. ⌜ r ≤ need ⌝ }
+{
+    if case.answer == 0 {
+        return need;
+    }
+    0
+}
+
+// Whether an output is left other than zero over its need, or, where it is not cleared, other than its list. The list is empty where
+// none is stored, and the output is then as it was.
+pub fn output_differs(is_cleared: bool, need: usize, list: &[u32], output: &[u32]) -> bool {
+    let zeros = [0u32; LENT];
+    differs(output, either(is_cleared, part(&zeros, 0, need), list))
 }

@@ -1,17 +1,17 @@
 // Cases of kind 2, `matching::find_diag_matching`: the list is the column of each row where the answer is 0, and the Hall marks
 // where it is 9. Other answers have none.
 ghost use Prim.Native.Nat.{_≤_};
-ghost use mathlib.Core.Path.{_≡_};
-ghost use mathlib.Core.Bool.{cond};
 ghost use lib.ListN.{length};
 use super::Replayed;
 use super::case::Case;
 use super::case::LENT;
 use super::case::cleared;
 use super::case::is_other;
+use super::case::output_differs;
 use super::case::read_case;
 use super::case::rows;
 use super::case::starts;
+use super::formed;
 use super::lists::JUNK;
 use super::lists::differs;
 use super::lists::part;
@@ -28,7 +28,7 @@ fn answers_other(answer: MatchingAnswer, case: Case) -> bool {
 }
 
 // How many numbers the stored list has.
-fn listed(case: Case) -> usize
+pub fn listed(case: Case) -> usize
     ensures { λ r. ⌜ r ≤ case .size ⌝ }
 {
     let answer = case.answer;
@@ -38,20 +38,23 @@ fn listed(case: Case) -> usize
     }
 }
 
-// The first list if the test holds, else the second.
-fn either<'a>(test: bool, first: &'a [u32], second: &'a [u32]) -> &'a [u32]
-    ensures { λ r. ⌜ now r ≡ cond test (now (first .entry)) (now (second .entry)) ⌝ }
-{
-    if test {
-        return first;
-    }
-    second
+// Whether the workspace or the stack is left other than the answer leaves it.
+pub fn work_differs(case: Case, visited: &[u32], cheap: &[u32], scol: &[u32], sat: &[u32]) -> bool {
+    let zeros = [0u32; LENT];
+    let work = part(&zeros, 0, cleared(case, case.size as usize));
+    let stack = or(differs(scol, work), differs(sat, work));
+    or(or(differs(visited, work), differs(cheap, work)), stack)
 }
 
-// Calls the function on buffers that hold junk. Of the outputs the stored list is one, and the other is zero; where none is stored
-// both are as they were.
+// Whether an output is left other than stored. The stored list is one of them, and the other is zero.
+pub fn matched_differs(case: Case, list: &[u32], row2col: &[u32], hall: &[u32]) -> bool {
+    let size = case.size as usize;
+    let matched = output_differs(case.answer == 9, size, list, row2col);
+    or(matched, output_differs(case.answer == 0, size, list, hall))
+}
+
+// Calls the function on buffers that hold junk.
 fn agrees(case: Case, starts: &[u32], rows: &[u32], list: &[u32]) -> bool {
-    let zeros = [0u32; LENT];
     let mut visited = [JUNK; LENT];
     let mut cheap = [JUNK; LENT];
     let mut scol = [JUNK; LENT];
@@ -69,12 +72,8 @@ fn agrees(case: Case, starts: &[u32], rows: &[u32], list: &[u32]) -> bool {
         &mut row2col,
         &mut hall,
     );
-    let work = part(&zeros, 0, cleared(case));
-    let stack = or(differs(&scol, work), differs(&sat, work));
-    let workspace = or(differs(&visited, work), differs(&cheap, work));
-    let matched = differs(&row2col, either(case.answer == 9, work, list));
-    let marked = differs(&hall, either(case.answer == 0, work, list));
-    let lent = or(or(workspace, stack), or(matched, marked));
+    let work = work_differs(case, &visited, &cheap, &scol, &sat);
+    let lent = or(work, matched_differs(case, list, &row2col, &hall));
     !or(answers_other(answer, case), lent)
 }
 
@@ -86,18 +85,11 @@ pub fn replay_case(numbers: &[u32]) -> Replayed
         return malformed();
     }
     let each = listed(case);
-    let end = case.lists + each;
-    if numbers.len() < end {
-        return malformed();
-    }
-    Replayed {
-        is_formed: true,
-        agrees: agrees(
-            case,
-            starts(numbers, case),
-            rows(numbers, case),
-            part(numbers, case.lists, each),
-        ),
-        length: end,
-    }
+    let agrees = agrees(
+        case,
+        starts(numbers, case),
+        rows(numbers, case),
+        part(numbers, case.lists, each),
+    );
+    formed(numbers, agrees, case.lists + each)
 }

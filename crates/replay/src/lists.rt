@@ -1,5 +1,6 @@
 // Reading lists of numbers, and comparing lent buffers with what they are to hold.
 ghost use mathlib.Core.Path.{_≡_};
+ghost use mathlib.Core.Bool.{cond};
 ghost use lib.ListN.{length, getD};
 ghost use Rattle.graph.specs.Counting.{some};
 ghost use Rattle.replay.specs.Lists.{partOf, differsAt};
@@ -30,6 +31,16 @@ pub fn part(list: &[u32], from: usize, count: usize) -> &[u32]
     }
     let end = from + count;
     &list[from..end]
+}
+
+// The first list if the test holds, else the second.
+pub fn either<'a>(test: bool, first: &'a [u32], second: &'a [u32]) -> &'a [u32]
+    ensures { λ r. ⌜ now r ≡ cond test (now (first .entry)) (now (second .entry)) ⌝ }
+{
+    if test {
+        return first;
+    }
+    second
 }
 
 // Whether a buffer holds anything but a list at its start and junk after that.

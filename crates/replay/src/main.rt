@@ -4,6 +4,7 @@ ghost use lib.ListN.{length};
 
 mod case;
 mod diagonal;
+mod form;
 mod lists;
 mod order;
 mod text;
@@ -37,6 +38,20 @@ pub fn malformed() -> Replayed
     }
 }
 
+// The case that ends here, or a malformed one where the numbers end before.
+pub fn formed(numbers: &[u32], agrees: bool, end: usize) -> Replayed
+    ensures { λ r. ⌜ r .length ≤ length (now (numbers .entry)) ⌝ }
+{
+    if numbers.len() < end {
+        return malformed();
+    }
+    Replayed {
+        is_formed: true,
+        agrees,
+        length: end,
+    }
+}
+
 // The case at the start of these numbers, by its kind: each kind has its line here.
 fn replay_case(kind: u32, numbers: &[u32]) -> Replayed
     ensures { λ r. ⌜ r .length ≤ length (now (numbers .entry)) ⌝ }
@@ -44,6 +59,7 @@ fn replay_case(kind: u32, numbers: &[u32]) -> Replayed
     match kind {
         1 => order::replay_case(numbers),
         2 => diagonal::replay_case(numbers),
+        3 => form::replay_case(numbers),
         _ => malformed(),
     }
 }

@@ -6,9 +6,11 @@ use super::case::Case;
 use super::case::LENT;
 use super::case::cleared;
 use super::case::is_other;
+use super::case::listed_accepted;
 use super::case::read_case;
 use super::case::rows;
 use super::case::starts;
+use super::formed;
 use super::lists::JUNK;
 use super::lists::differs;
 use super::lists::part;
@@ -22,16 +24,6 @@ fn answers_other(answer: OrderAnswer, case: Case) -> bool {
         OrderAnswer::Accepted => is_other(case, 0, 0),
         OrderAnswer::Refused(r) => is_other(case, r.number, r.place),
     }
-}
-
-// How many numbers each stored list has.
-fn listed(case: Case) -> usize
-    ensures { λ r. ⌜ r ≤ case .size ⌝ }
-{
-    if case.answer == 0 {
-        return case.size as usize;
-    }
-    0
 }
 
 // Calls the function on buffers that hold junk.
@@ -54,7 +46,7 @@ fn agrees(case: Case, starts: &[u32], rows: &[u32], columns: &[u32], places: &[u
         &mut new2orig,
         &mut orig2new,
     );
-    let work = part(&zeros, 0, cleared(case));
+    let work = part(&zeros, 0, cleared(case, case.size as usize));
     let links = or(differs(&prev, work), differs(&next, work));
     let queue = or(differs(&score2head, work), links);
     let lists = or(differs(&new2orig, columns), differs(&orig2new, places));
@@ -69,22 +61,15 @@ pub fn replay_case(numbers: &[u32]) -> Replayed
     if !case.is_small {
         return malformed();
     }
-    let each = listed(case);
+    let each = listed_accepted(case, case.size as usize);
     let columns = case.lists;
     let places = columns + each;
-    let end = places + each;
-    if numbers.len() < end {
-        return malformed();
-    }
-    Replayed {
-        is_formed: true,
-        agrees: agrees(
-            case,
-            starts(numbers, case),
-            rows(numbers, case),
-            part(numbers, columns, each),
-            part(numbers, places, each),
-        ),
-        length: end,
-    }
+    let agrees = agrees(
+        case,
+        starts(numbers, case),
+        rows(numbers, case),
+        part(numbers, columns, each),
+        part(numbers, places, each),
+    );
+    formed(numbers, agrees, places + each)
 }
