@@ -7,7 +7,7 @@ use mathlib.Core.List.{List, [], _∷_, map, reverse}
 use lib.ListN.{length, getD, take}
 use Rattle.graph.specs.Lists.{Mem, elem, keep, range}
 use Rattle.graph.specs.Reachability.{Both}
-use Rattle.graph.specs.Matchings.{Col, Pattern, partner}
+use Rattle.graph.specs.Matchings.{Row, Col, Pattern, partner}
 use Rattle.graph.specs.Walks.{unwalked, each, visit}
 
 -- the columns of block i
@@ -20,6 +20,13 @@ pub record BlockForm (n : ℕ) (Edge : Col → Col → Type 0) (bs : List (List 
   pub single : (c : Col) (i j : ℕ) → Mem c (block bs i) → Mem c (block bs j) → i ≡ j
   pub same : (i : ℕ) (c d : Col) → Mem c (block bs i) → Mem d (block bs i) ↔ Both Edge c d
   pub lower : (c d : Col) (i j : ℕ) → Edge c d → Mem c (block bs i) → Mem d (block bs j) → i ≤ j
+
+-- two lists of blocks, under matchings f and g, are the same sets of columns with their rows: blocks that share a column have the same
+-- columns, and the same rows below n are matched to them
+abbrev pub SameBlocks : ℕ → (Row → Col) → (Row → Col) → List (List Col) → List (List Col) → Type 0
+SameBlocks n f g bs bs′ =
+    (c : Col) (i j : ℕ) → Mem c (block bs i) → Mem c (block bs′ j)
+    → ((d : Col) → Mem d (block bs i) ↔ Mem d (block bs′ j)) × ((r : Row) → r < n → Mem (f r) (block bs i) ↔ Mem (g r) (block bs′ j))
 
 -- the columns that column c points to, in list order
 abbrev pub targets : Pattern → List Col → Col → List Col

@@ -117,7 +117,7 @@ fn flag(test: bool) -> u32
 }
 
 // Marks the columns that have a stamp, and no others.
-fn mark_hall(size: u32, visited: &[u32], stamp: u32, hall: &mut [u32])
+pub fn mark_hall(size: u32, visited: &[u32], stamp: u32, hall: &mut [u32])
     requires { ⌜ (size ≤ length (now visited)) × (size ≤ length (now hall)) ⌝ }
     ensures { λ _. ⌜ now (hall .exit) ≡ filled (table (λ c. bit (eqb (getD (now (visited .entry)) c 0) stamp)) size) (now (hall .entry)) ⌝ }
 {
