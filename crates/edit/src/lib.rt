@@ -1,0 +1,1 @@
+// The edit of one column of a matrix.
