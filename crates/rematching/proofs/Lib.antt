@@ -1,0 +1,2 @@
+pub mod Rematching
+pub mod Ends
