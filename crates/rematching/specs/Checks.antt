@@ -7,9 +7,16 @@ use lib.ListN.{length, getD, take}
 use Rattle.graph.specs.Lists.{Once, elem}
 use Rattle.graph.specs.Matchings.{Row, Col, Pattern, Perfect, partner}
 use Rattle.sparse.specs.Limits.{maxEntries}
-use Rattle.sparse.specs.Matrix.{column, width, RowsBelow}
+use Rattle.sparse.specs.Matrix.{column, columnOr, width, RowsBelow}
 use Rattle.sparse.specs.Refusals.{refusedIf, refusedAt, repeatedRow}
 use Rattle.sparse.specs.declared.Checked.{Checked}
+
+-- the old matrix, and the edited one
+abbrev pub oldPattern : List ℕ → List Row → Pattern
+oldPattern starts rows = column starts rows
+
+abbrev pub newPattern : List ℕ → List Row → Col → List Row → Pattern
+newPattern starts rows e new = columnOr starts rows e new
 
 -- 13: the edited column is not below n
 unfoldable pub columnOutside : ℕ → Col → Checked
@@ -42,7 +49,7 @@ grownTooLarge starts rows e new = refusedIf 1 (ltb maxEntries (editedEntries sta
 -- 4, 13, 14, 15 and the late 1, which an edit tests once it may clear its workspace
 unfoldable pub late : ℕ → List ℕ → List Row → Col → List Row → List Col → List Checked
 late size starts rows e new m =
-    repeatedRow size starts rows ∷ columnOutside size e ∷ unfitRow size new ∷ mismatchedRow size (column starts rows) m
+    repeatedRow size starts rows ∷ columnOutside size e ∷ unfitRow size new ∷ mismatchedRow size (oldPattern starts rows) m
     ∷ grownTooLarge starts rows e new ∷ []
 
 -- what 13, 14, 15 and the late 1 let through: a column, a replacement without repeats, a perfect matching of the old matrix, and an
@@ -51,5 +58,5 @@ pub record Editable (size : ℕ) (starts : List ℕ) (rows : List Row) (e : Col)
   pub below : e < size
   pub new-below : RowsBelow new size
   pub new-once : Once new
-  pub perfect : Perfect size (column starts rows) (partner m)
+  pub perfect : Perfect size (oldPattern starts rows) (partner m)
   pub few : editedEntries starts rows e new ≤ maxEntries

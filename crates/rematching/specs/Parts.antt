@@ -6,7 +6,7 @@ use lib.ListN.{length, getD}
 use Rattle.sparse.specs.Limits.{none}
 use Rattle.sparse.specs.Parts.{ZeroBelow}
 
--- the first k stand for nothing
+-- the first k hold none
 abbrev pub NoneBelow : ℕ → List ℕ → Type 0
 NoneBelow k xs = (i : ℕ) → i < k → getD xs i 0 ≡ none
 
