@@ -59,7 +59,16 @@ fn edit_tested<'a>(
         (now (col2row .entry)) (now (backstarts .entry)) (now (backrows .entry)) (now (scol .entry)) (now (sat .entry))) ⌝ }
 {
     clear(visited, size);
-    let checked = check_edit(size, starts, rows, edited, replacement, row2col, visited, col2row);
+    let checked = check_edit(
+        size,
+        starts,
+        rows,
+        edited,
+        replacement,
+        row2col,
+        visited,
+        col2row,
+    );
     if let Checked::Refused(r) = checked {
         return BlockAnswer::Refused(r);
     }
