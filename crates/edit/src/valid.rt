@@ -49,8 +49,8 @@ fn refuse_edit(
     })
 }
 
-// The edit of a valid matrix, where the row of the edited column stands in col2row. What the workspace holds afterwards is the caller's to
-// clear.
+// The edit of a valid matrix, where the row of the edited column stands in col2row. What the workspace holds afterwards is the caller's
+// to clear.
 pub fn edit_valid<'a>(
     size: u32,
     starts: &[u32],
@@ -80,9 +80,9 @@ pub fn edit_valid<'a>(
         (now (blockstarts .entry))) (rematching size (columnOr (now (starts .entry)) (now (rows .entry)) (edited .0)
         (now (replacement .entry))) (take size (now (row2col .entry))) (edited .0))) ⌝ }
     ensures { λ _. ⌜ cleared size (editEntries size (now (rows .entry))) (work (now (visited .exit)) (now (cheap .exit))
-        (now (finished .exit)) (now (col2row .exit)) (now (backstarts .exit)) (now (backrows .exit)) (now (scol .exit)) (now (sat .exit)))
-        ≡ cleared size (editEntries size (now (rows .entry))) (work (now (visited .entry)) (now (cheap .entry)) (now (finished .entry))
-        (now (col2row .entry)) (now (backstarts .entry)) (now (backrows .entry)) (now (scol .entry)) (now (sat .entry))) ⌝ }
+        (now (finished .exit)) (now (col2row .exit)) (now (backstarts .exit)) (now (backrows .exit)) (now (scol .exit))
+        (now (sat .exit))) ≡ cleared size (editEntries size (now (rows .entry))) (work (now (visited .entry)) (now (cheap .entry))
+        (now (finished .entry)) (now (col2row .entry)) (now (backstarts .entry)) (now (backrows .entry)) (now (scol .entry)) (now (sat .entry))) ⌝ }
 {
     clear(visited, size);
     clear(cheap, size);
@@ -108,7 +108,7 @@ pub fn edit_valid<'a>(
         size,
         starts,
         rows,
-        edited,
+        Column(edited.0),
         replacement,
         row2col,
         visited,
