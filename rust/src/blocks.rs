@@ -41,6 +41,7 @@ extern "C" {
 
 /// What the block form is lent: six workspace slices, a stack in two slices, and the four outputs. Each is of the pattern's size
 /// or longer, but for `backstarts` and `blockstarts`, which take one more, and `backrows`, which takes one for each entry.
+/// The edit is lent the same, but for `backrows`, which takes one for each column too, and `row2col`, which holds the old matching.
 #[derive(Debug)]
 pub struct BlocksLent<'a> {
     pub visited: &'a mut [u32],
@@ -64,7 +65,7 @@ pub struct BlocksLent<'a> {
     pub blockstarts: &'a mut [u32],
 }
 
-/// What the block form answers.
+/// What the block form and the edit answer.
 #[derive(Clone, Copy, Debug, PartialEq, Eq)]
 pub enum BlocksAnswer {
     /// There are so many blocks.

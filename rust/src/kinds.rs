@@ -26,10 +26,17 @@ pub struct Refusal {
     pub place: u32,
 }
 
-// A call of the archive, in which every slice is said once and passes as pointer and length.
+// A call of the archive, in which every slice is said once and passes as pointer and length. An edit is a column and a slice.
 macro_rules! call_archive {
-    ($entry:ident: $size:expr, read [$($read:ident),*], lent [$($lent:ident),*], written [$($written:ident),*]) => {
-        $entry($size, $($read.as_ptr(), $read.len(),)* $($lent.as_mut_ptr(), $lent.len(),)* $(&mut $written),*)
+    ($entry:ident: $size:expr, read [$($read:ident),*], $(edit [$edited:expr, $by:ident],)?
+        lent [$($lent:ident),*], written [$($written:ident),*]) => {
+        $entry(
+            $size,
+            $($read.as_ptr(), $read.len(),)*
+            $($edited, $by.as_ptr(), $by.len(),)?
+            $($lent.as_mut_ptr(), $lent.len(),)*
+            $(&mut $written),*
+        )
     };
 }
 

@@ -7,12 +7,12 @@ use triangular::BlockAnswer;
 
 // edit::edit_column.
 #[no_mangle]
-pub extern "C" fn dechvorim_edit_column(
+pub extern "C" fn dechvorim_edit_column<'a>(
     size: u32,
     starts: &[u32],
-    rows: &[u32],
+    rows: &'a [u32],
     edited: u32,
-    replacement: &[u32],
+    replacement: &'a [u32],
     visited: &mut [u32],
     cheap: &mut [u32],
     finished: &mut [u32],

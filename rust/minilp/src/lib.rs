@@ -18,6 +18,10 @@ mod ordering {
     include!(concat!(env!("MINILP_SRC"), "/ordering.rs"));
 }
 
+mod staged;
+
+pub use staged::{search_once, walk_twice};
+
 /// A pattern as the Rust takes it: starts and rows, in its own width.
 pub struct Columns {
     pub starts: Vec<usize>,

@@ -1,6 +1,6 @@
-//! Times every entry of the library beside the Rust, and prints the report.
+//! Times every entry of the library, or those that are named, beside the Rust, and prints the report.
 use dechvorim::driver::bench::{Timing, BATCHES, CALLS, PATTERNS};
-use dechvorim::driver::ENTRIES;
+use dechvorim::driver::chosen;
 
 const SEED: u64 = 19_880_901;
 
@@ -14,7 +14,10 @@ fn main() {
     println!("zeroed once by the driver, in stores as wide as its compiler makes them.\n");
     println!("The Rust trusts its input and allocates its slices; the library tests every start and every row before it");
     println!("begins, and is lent all that it writes to.");
-    for entry in ENTRIES {
+    if cfg!(feature = "edit-stand-in") {
+        println!("\nThe edit is a stand-in, not the library's.");
+    }
+    for entry in chosen() {
         println!("\n## {}\n\n{}\n", entry.name, entry.bench_note);
         println!("| Input | Library, median | Rust, median | Ratio | Library, least | Rust, least | Ratio | Clearing, median (least) |");
         println!("|---|---|---|---|---|---|---|---|");

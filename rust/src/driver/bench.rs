@@ -1,6 +1,6 @@
 //! Times, in batches that take turns.
 use super::buffer::Room;
-use super::input::Input;
+use super::case::Case;
 use super::lent::Lent;
 use super::random::Xorshift;
 use super::verdict::{check, Verdict};
@@ -34,53 +34,58 @@ pub struct Timing {
     pub clearing: Times,
 }
 
-/// A kind of pattern that is timed: its name in the report, how to make one of a size, and how many calls make a batch of them.
-pub struct Benched {
+/// A kind of case that is timed: its name in the report, how to make one of a size, and how many calls make a batch of them.
+pub struct Benched<C> {
     pub words: String,
-    pub make: fn(u32, &mut Xorshift) -> Input,
+    pub make: fn(u32, &mut Xorshift) -> C,
     pub calls: usize,
 }
 
 /// A kind with the usual number of calls.
-pub fn benched(words: &str, make: fn(u32, &mut Xorshift) -> Input) -> Benched {
+pub fn benched<C>(words: &str, make: fn(u32, &mut Xorshift) -> C) -> Benched<C> {
     Benched { words: words.to_string(), make, calls: CALLS }
 }
 
 /// The same function of the Rust.
 type Original<R> = fn(usize, &minilp::Columns) -> R;
 
-/// Times an entry beside the Rust on patterns of these kinds. What `noted` says of the patterns follows their name in the report.
-pub fn bench<V: Verdict, R>(kinds: &[Benched], noted: fn(&[Input]) -> String, original: Original<R>, seed: u64) -> Vec<Timing> {
+/// What the report says of some cases behind the name of their kind.
+type Noted<C> = fn(&[C]) -> String;
+
+/// Times an entry beside the Rust on cases of these kinds.
+pub fn bench<V: Verdict, R>(kinds: &[Benched<V::Case>], noted: Noted<V::Case>, original: Original<R>, seed: u64) -> Vec<Timing> {
     let mut random = Xorshift::new(seed);
     let mut timings = vec![];
     for kind in kinds {
         for size in SIZES {
-            let inputs: Vec<Input> = (0..PATTERNS.min(kind.calls)).map(|_| (kind.make)(size, &mut random)).collect();
-            let words = format!("size {size}, {}{}", kind.words, noted(&inputs));
-            let [library, original, clearing] = timed::<V, R>(&inputs, kind.calls, original, &mut random);
+            let cases: Vec<V::Case> = (0..PATTERNS.min(kind.calls)).map(|_| (kind.make)(size, &mut random)).collect();
+            let words = format!("size {size}, {}{}", kind.words, noted(&cases));
+            let [library, original, clearing] = timed::<V, R>(&cases, kind.calls, original, &mut random);
             timings.push(Timing { words, library, original, clearing });
         }
     }
     timings
 }
 
-fn timed<V: Verdict, R>(inputs: &[Input], calls: usize, original: Original<R>, random: &mut Xorshift) -> [Times; 3] {
-    for input in inputs {
-        check::<V>(input, Room::Enough, random).expect("both answer the same");
+fn timed<V: Verdict, R>(cases: &[V::Case], calls: usize, original: Original<R>, random: &mut Xorshift) -> [Times; 3] {
+    for case in cases {
+        check::<V>(case, Room::Enough, random).expect("both answer the same");
     }
-    let wide: Vec<minilp::Columns> = inputs.iter().map(Input::widened).collect();
-    let largest = inputs.iter().max_by_key(|input| input.rows.len()).expect("there are inputs");
+    let wide: Vec<minilp::Columns> = cases.iter().map(Case::timed).collect();
+    let largest = cases.iter().map(Case::matrix).max_by_key(|input| input.rows.len()).expect("there are cases");
     let mut lent = Lent::junk(V::PLAN, largest, Room::Enough, random);
     let mut cleared = lent.clone();
     let mut library = |call: usize| {
-        black_box(V::call(black_box(&inputs[call % inputs.len()]), &mut lent));
+        let case = black_box(&cases[call % cases.len()]);
+        V::enter(case, &mut lent);
+        black_box(V::call(case, &mut lent));
     };
     let mut original = |call: usize| {
-        let which = call % inputs.len();
-        black_box(original(black_box(inputs[which].size as usize), black_box(&wide[which])));
+        let which = call % cases.len();
+        black_box(original(black_box(cases[which].matrix().size as usize), black_box(&wide[which])));
     };
     // As many stores as the library's clearing at the end.
-    let mut clearing = |call: usize| black_box(&mut cleared).clear_accepted(&inputs[call % inputs.len()]);
+    let mut clearing = |call: usize| black_box(&mut cleared).clear_accepted(cases[call % cases.len()].matrix());
     interleaved(calls, [&mut library, &mut original, &mut clearing])
 }
 

@@ -2,17 +2,15 @@
 use super::bench::{bench, benched};
 use super::compare::Kind;
 use super::components::hold_form;
+use super::form::{lend, numbers, Form, Formed, COLUMNS};
 use super::input::Input;
-use super::lent::{fill, marks, output, work, Lent, Need::Entries, Need::Size, Need::Starts, Plan};
+use super::lent::{fill, Lent, Need::Entries, Plan};
 use super::matchable::{hidden, long_chain, KINDS, RINGS};
 use super::matching::judge_valid;
-use super::original::quietly;
-use super::searches::Failed;
-use super::verdict::{compared, list, recorded, refused, Verdict};
+use super::verdict::{compared, recorded, refused, Verdict};
 use super::{samples, Entry};
 use crate::blocks::said;
-use crate::{BlocksAnswer, BlocksLent, Column, Refusal};
-use std::iter::{once, repeat_n};
+use crate::{BlocksAnswer, Column, Refusal};
 
 pub const ENTRY: Entry = Entry {
     name: "blocks",
@@ -33,66 +31,15 @@ fn kinds() -> Vec<Kind> {
     KINDS.into_iter().chain([RINGS]).collect()
 }
 
-fn lend(lent: &mut Lent) -> BlocksLent<'_> {
-    let (numbers, [row2col, blockcols]) = lent.lend();
-    let [visited, cheap, finished, col2row, backstarts, backrows, scol, sat, hall, blockstarts] = numbers;
-    BlocksLent { visited, cheap, finished, col2row, backstarts, backrows, scol, sat, row2col, hall, blockcols, blockstarts }
-}
-
-/// A matching and its blocks.
-struct Form {
-    row2col: Vec<Column>,
-    blocks: Vec<Vec<Column>>,
-}
-
-impl Form {
-    // The Rust's, or none where it panics.
-    fn original(input: &Input) -> Option<Form> {
-        let form = quietly(|| minilp::find_block_diag_form(input.size as usize, &input.widened()))?;
-        let columns = |list: &Vec<usize>| list.iter().map(|&c| Column(c as u32)).collect();
-        Some(Form { row2col: columns(&form.row2col), blocks: form.block_cols.iter().map(columns).collect() })
-    }
-
-    fn columns(&self) -> impl Iterator<Item = Column> + '_ {
-        self.blocks.iter().flatten().copied()
-    }
-
-    // 0 and the end of each block, then zeros: as many as there are columns, and one.
-    fn starts(&self) -> impl Iterator<Item = u32> + '_ {
-        let ends = self.blocks.iter().scan(0, |end, block| {
-            *end += block.len() as u32;
-            Some(*end)
-        });
-        once(0).chain(ends).chain(repeat_n(0, self.row2col.len() - self.blocks.len()))
-    }
-}
-
-/// What the judges say: the table's refusal, the Rust's form, or the search of the matching that failed.
-enum Judged {
-    Refused(Refusal),
-    Formed(Form),
-    Unmatched(Failed),
-}
+/// What the judges say, where a form is the Rust's.
+struct Judged(Formed);
 
 impl Verdict for Judged {
-    /// The count stands beside the answer, since it must be 0 after a refusal, which the answer does not show.
+    type Case = Input;
+
     type Answer = (BlocksAnswer, u32);
 
-    const PLAN: &'static Plan = &Plan {
-        numbers: &[
-            work("visited", Size),
-            work("cheap", Size),
-            work("finished", Size),
-            work("col2row", Size),
-            work("backstarts", Starts),
-            work("backrows", Entries),
-            work("scol", Size),
-            work("sat", Size),
-            marks("hall"),
-            output("blockstarts", Starts),
-        ],
-        columns: &[output("row2col", Size), output("blockcols", Size)],
-    };
+    const PLAN: &'static Plan = &Plan { numbers: &numbers(Entries), columns: &COLUMNS };
 
     fn call(input: &Input, lent: &mut Lent) -> (BlocksAnswer, u32) {
         let said = said(input.pattern(), lend(lent));
@@ -103,78 +50,44 @@ impl Verdict for Judged {
     // panics exactly where there is none. Its form is held against the components.
     fn judge(input: &Input, lengths: &[usize]) -> Result<Judged, String> {
         if let Some(refused) = refused::<Judged>(input, lengths) {
-            return Ok(Judged::Refused(refused));
+            return Ok(Judged(Formed::Refused(refused)));
         }
         match (judge_valid(input)?, Form::original(input)) {
             (Ok(row2col), Some(form)) if row2col == form.row2col => {
                 let held = hold_form(input, &form.row2col, &form.blocks);
                 held.map_err(|what| format!("the judges disagree: the Rust and the components: {what}"))?;
-                Ok(Judged::Formed(form))
+                Ok(Judged(Formed::Formed(form)))
             }
-            (Err(failed), None) => Ok(Judged::Unmatched(failed)),
+            (Err(failed), None) => Ok(Judged(Formed::Unmatched(failed))),
             _ => Err("the judges disagree: the Rust's form has another matching, or none where there is one".to_string()),
         }
     }
 
     fn refusal(&self) -> Option<Refusal> {
-        match self {
-            Judged::Refused(refused) => Some(*refused),
-            Judged::Formed(_) => None,
-            Judged::Unmatched(failed) => Some(failed.refusal()),
-        }
+        self.0.refusal()
     }
 
     fn answer(&self) -> (BlocksAnswer, u32) {
-        let count = match self {
-            Judged::Formed(form) => form.blocks.len() as u32,
-            Judged::Refused(_) | Judged::Unmatched(_) => 0,
-        };
-        (self.refusal().map_or(BlocksAnswer::Accepted { count }, BlocksAnswer::Refused), count)
+        self.0.answer()
     }
 
+    // Refusal 9 leaves no matching either.
     fn fill(&self, lent: &mut Lent) {
-        let BlocksLent { row2col, hall, blockcols, blockstarts, .. } = lend(lent);
-        match self {
-            Judged::Refused(_) => {}
-            // Acceptance clears the marks.
-            Judged::Formed(form) => {
-                fill(row2col, form.row2col.iter().copied());
-                fill(hall, form.row2col.iter().map(|_| 0));
-                fill(blockcols, form.columns());
-                fill(blockstarts, form.starts());
-            }
-            // Refusal 9 sets the marks and leaves neither a matching nor blocks.
-            Judged::Unmatched(failed) => {
-                let size = failed.visited.len();
-                fill(row2col, repeat_n(Column(0), size));
-                fill(hall, failed.marks());
-                fill(blockcols, repeat_n(Column(0), size));
-                fill(blockstarts, repeat_n(0, size + 1));
-            }
+        self.0.fill(lend(lent));
+        if let Formed::Unmatched(failed) = &self.0 {
+            fill(lend(lent).row2col, failed.visited.iter().map(|_| Column(0)));
         }
     }
 
     fn lists(&self) -> String {
-        match self {
-            Judged::Refused(_) => String::new(),
-            Judged::Formed(form) => [
-                list("match", form.row2col.iter().map(|c| c.0)),
-                list("count", once(form.blocks.len() as u32)),
-                list("columns", form.columns().map(|c| c.0)),
-                list("starts", form.starts()),
-            ]
-            .concat(),
-            Judged::Unmatched(failed) => list("hall", failed.marks()),
-        }
+        self.0.lists()
     }
 
     // The library's own lists are held against the components too, as they stand in its buffers.
     fn hold(&self, input: &Input, lent: &mut Lent) -> Result<(), String> {
-        let Judged::Formed(form) = self else { return Ok(()) };
-        let BlocksLent { row2col, blockcols, blockstarts, .. } = lend(lent);
-        let ends = &blockstarts[..form.blocks.len() + 1];
-        let blocks: Vec<Vec<Column>> = ends.windows(2).map(|pair| blockcols[pair[0] as usize..pair[1] as usize].to_vec()).collect();
-        hold_form(input, row2col, &blocks)
+        let Formed::Formed(form) = &self.0 else { return Ok(()) };
+        let Form { row2col, blocks } = Form::lent(lend(lent), input.size as usize, form.blocks.len());
+        hold_form(input, &row2col, &blocks)
     }
 }
 

@@ -1,16 +1,12 @@
 //! The comparison of an entry that takes a pattern and lent buffers, over families of inputs.
 use super::buffer::Room;
-use super::damage::{Damage, DAMAGES};
+use super::damage::Damage;
+use super::faults::{alone, faults, in_pairs, several, shortages, Fault, Faults};
 use super::input::Input;
-use super::patterns::{distinct, every, random, with_lengths, SHAPES};
+use super::patterns::{every, random, with_lengths, SHAPES};
 use super::random::Xorshift;
-use super::smallest::smallest;
+use super::run::{Check, Difference, Done, Family, Run};
 use super::table::{MAX_ENTRIES, MAX_SIZE};
-use std::collections::BTreeMap;
-use std::fmt;
-
-/// One call of an entry beside its judge: the number answered, or what differs.
-pub type Check = fn(&Input, Room, &mut Xorshift) -> Result<u32, String>;
 
 /// A kind of valid pattern that an entry asks for, of any size.
 #[derive(Clone, Copy)]
@@ -19,92 +15,13 @@ pub struct Kind {
     pub make: fn(u32, &mut Xorshift) -> Input,
 }
 
-/// A family of inputs that were compared.
-pub struct Family {
-    pub name: String,
-    pub cases: u64,
-    /// How often each number was answered.
-    pub answers: BTreeMap<u32, u64>,
-}
-
-impl fmt::Display for Family {
-    fn fmt(&self, f: &mut fmt::Formatter<'_>) -> fmt::Result {
-        let answers: Vec<String> = self.answers.iter().map(|(number, times)| format!("{number}: {times}")).collect();
-        write!(f, "{}: {} cases, no difference; by answer {}", self.name, self.cases, answers.join(", "))
-    }
-}
-
-/// An input on which an entry and its judge differ, made as small as could be.
-pub struct Difference {
-    pub family: String,
-    pub case: u64,
-    pub input: Input,
-    pub what: String,
-}
-
-impl fmt::Display for Difference {
-    fn fmt(&self, f: &mut fmt::Formatter<'_>) -> fmt::Result {
-        writeln!(f, "found in case {} of the family: {}", self.case, self.family)?;
-        writeln!(f, "smallest input: {:.200}", self.input)?;
-        write!(f, "{}", self.what)
-    }
-}
-
-/// Goes through the families and counts.
-struct Run {
-    check: Check,
-    buffers: u32,
-    random: Xorshift,
-    families: Vec<Family>,
-}
-
-type Done = Result<(), Difference>;
-
-impl Run {
-    fn begin(&mut self, name: &str) {
-        self.families.push(Family { name: name.to_string(), cases: 0, answers: BTreeMap::new() });
-    }
-
-    // Each case has a seed of its own, so that it can be run again while it is made smaller.
-    fn case(&mut self, input: &Input, room: Room) -> Done {
-        let seed = self.random.draw();
-        let family = self.families.last_mut().expect("a family has begun");
-        family.cases += 1;
-        match (self.check)(input, room, &mut Xorshift::new(seed)) {
-            Ok(number) => {
-                *family.answers.entry(number).or_default() += 1;
-                Ok(())
-            }
-            Err(what) => {
-                let (input, what) = smallest(self.check, input, what, room, seed);
-                Err(Difference { family: family.name.clone(), case: family.cases, input, what })
-            }
-        }
-    }
-
-    // Mostly enough, so that most valid inputs are answered.
-    fn room(&mut self) -> Room {
-        if self.random.one_in(8) {
-            Room::Any
-        } else {
-            Room::Enough
-        }
-    }
-
-    // With buffers that are long enough, and again with any.
-    fn both(&mut self, input: &Input) -> Done {
-        self.case(input, Room::Enough)?;
-        self.case(input, Room::Any)
-    }
-}
-
 /// Compares an entry that lends so many buffers, over all families, then over the kinds of its own.
-pub fn compare(check: Check, buffers: u32, kinds: &[Kind], seed: u64) -> Result<Vec<Family>, Difference> {
-    let mut run = Run { check, buffers, random: Xorshift::new(seed), families: vec![] };
+pub fn compare(check: Check<Input>, buffers: u32, kinds: &[Kind], seed: u64) -> Result<Vec<Family>, Difference> {
+    let mut run = Run::new(check, buffers, seed);
     small(&mut run)?;
     random_patterns(&mut run)?;
-    one_fault(&mut run)?;
-    two_faults(&mut run)?;
+    alone(&mut run, base, 500)?;
+    in_pairs(&mut run, base, 50)?;
     many_faults(&mut run)?;
     full_size(&mut run)?;
     over_the_limits(&mut run)?;
@@ -112,7 +29,7 @@ pub fn compare(check: Check, buffers: u32, kinds: &[Kind], seed: u64) -> Result<
     Ok(run.families)
 }
 
-fn small(run: &mut Run) -> Done {
+fn small(run: &mut Run<Input>) -> Done {
     run.begin("every pattern of size 0 to 3");
     for size in 0..=3 {
         for input in every(size) {
@@ -122,7 +39,7 @@ fn small(run: &mut Run) -> Done {
     Ok(())
 }
 
-fn random_patterns(run: &mut Run) -> Done {
+fn random_patterns(run: &mut Run<Input>) -> Done {
     run.begin("random patterns of size 0 to 60");
     for _ in 0..40_000 {
         let size = run.random.below(61);
@@ -135,92 +52,26 @@ fn random_patterns(run: &mut Run) -> Done {
     Ok(())
 }
 
-/// A fault: damage to the input, or a buffer one short.
-#[derive(Clone, Copy)]
-enum Fault {
-    Damage(Damage),
-    Short(u32),
+fn base(rng: &mut Xorshift) -> Input {
+    let size = rng.below(13);
+    let shape = rng.pick(&SHAPES);
+    let empties = rng.one_in(6);
+    random(size, shape, empties, rng)
 }
 
-// All faults but an entry too many, which takes a million: the family over the limits has it.
-fn faults(buffers: u32) -> Vec<Fault> {
-    DAMAGES.iter().copied().map(Fault::Damage).chain((0..buffers).map(Fault::Short)).collect()
-}
-
-// The input with these faults, and the room that is left for it.
-fn damaged(base: &Input, faults: &[Fault], random: &mut Xorshift) -> (Input, Room) {
-    let mut input = base.clone();
-    let (mut damages, mut set) = (vec![], 0);
-    for fault in faults {
-        match *fault {
-            Fault::Damage(damage) => damages.push(damage),
-            Fault::Short(which) => set |= 1 << which,
-        }
-    }
-    damages.sort();
-    for damage in damages {
-        damage.apply(&mut input, random);
-    }
-    (input, Room::Short(set))
-}
-
-fn base(run: &mut Run) -> Input {
-    let size = run.random.below(13);
-    let shape = run.random.pick(&SHAPES);
-    let empties = run.random.one_in(6);
-    random(size, shape, empties, &mut run.random)
-}
-
-fn one_fault(run: &mut Run) -> Done {
-    run.begin("every fault, alone");
-    for _ in 0..500 {
-        let base = base(run);
-        for fault in faults(run.buffers) {
-            let (input, room) = damaged(&base, &[fault], &mut run.random);
-            run.case(&input, room)?;
-        }
-    }
-    Ok(())
-}
-
-fn two_faults(run: &mut Run) -> Done {
-    run.begin("every two faults at once");
-    let faults = faults(run.buffers);
-    for _ in 0..50 {
-        let base = base(run);
-        for (i, &first) in faults.iter().enumerate() {
-            for &second in &faults[i..] {
-                let (input, room) = damaged(&base, &[first, second], &mut run.random);
-                run.case(&input, room)?;
-            }
-        }
-    }
-    Ok(())
-}
-
-fn many_faults(run: &mut Run) -> Done {
-    run.begin("two to five faults at once");
-    let all = faults(run.buffers);
+fn many_faults(run: &mut Run<Input>) -> Done {
+    let all = faults::<Input>(run.buffers);
     // Where the size and the starts are sound, the table's later lines decide.
     let rows = all.iter().filter(|fault| matches!(fault, Fault::Damage(damage) if *damage <= Damage::RowLargest));
-    let rows: Vec<Fault> = rows.copied().collect();
-    let late: Vec<Fault> = rows.iter().copied().chain((0..run.buffers).map(Fault::Short)).collect();
-    for _ in 0..30_000 {
-        let base = base(run);
-        let from = run.random.pick(&[&all, &late, &rows]);
-        let count = run.random.between(2, 5);
-        let chosen = distinct(from.len() as u32, count, &mut run.random);
-        let chosen: Vec<Fault> = chosen.into_iter().map(|i| from[i as usize]).collect();
-        let (input, room) = damaged(&base, &chosen, &mut run.random);
-        run.case(&input, room)?;
-    }
-    Ok(())
+    let rows: Faults<Input> = rows.copied().collect();
+    let late: Faults<Input> = rows.iter().copied().chain(shortages::<Input>(run.buffers)).collect();
+    several(run, base, &[&all, &late, &rows], 30_000)
 }
 
 /// As many rows in each column of the largest size as make up the largest number of entries.
-const FULL_LENGTH: u32 = MAX_ENTRIES as u32 / MAX_SIZE;
+pub const FULL_LENGTH: u32 = MAX_ENTRIES as u32 / MAX_SIZE;
 
-fn full_size(run: &mut Run) -> Done {
+fn full_size(run: &mut Run<Input>) -> Done {
     run.begin("patterns of size 4096");
     let rng = &mut run.random;
     let mut inputs = vec![
@@ -250,7 +101,7 @@ fn full_size(run: &mut Run) -> Done {
     Ok(())
 }
 
-fn over_the_limits(run: &mut Run) -> Done {
+fn over_the_limits(run: &mut Run<Input>) -> Done {
     run.begin("one column or one entry too many");
     let rng = &mut run.random;
     let mut longer = with_lengths(MAX_SIZE, rng, |_, c| FULL_LENGTH + u32::from(c == 9));
@@ -272,7 +123,7 @@ fn over_the_limits(run: &mut Run) -> Done {
     Ok(())
 }
 
-fn of_kinds(run: &mut Run, kinds: &[Kind]) -> Done {
+fn of_kinds(run: &mut Run<Input>, kinds: &[Kind]) -> Done {
     for (sizes, least, most, cases) in [("size 0 to 60", 0, 60, 10_000), ("size 4096", MAX_SIZE, MAX_SIZE, 6)] {
         for kind in kinds {
             run.begin(&format!("{}, {sizes}", kind.name));

@@ -4,12 +4,12 @@ use super::input::Input;
 use crate::Column;
 
 /// Which columns each column leads to: those that its rows are matched to.
-struct Graph {
-    children: Vec<Vec<usize>>,
+pub struct Graph {
+    pub children: Vec<Vec<usize>>,
 }
 
 impl Graph {
-    fn of(input: &Input, row2col: &[Column]) -> Graph {
+    pub fn of(input: &Input, row2col: &[Column]) -> Graph {
         let children = |c: usize| input.column(c).iter().map(|row| row2col[row.0 as usize].0 as usize).collect();
         Graph { children: (0..input.size as usize).map(children).collect() }
     }

@@ -67,8 +67,8 @@ impl Damage {
     }
 }
 
-// The starts after column c move by as much as the column grew.
-fn move_starts(input: &mut Input, c: usize, by: i32) {
+/// The starts after column c move by as much as the column grew.
+pub fn move_starts(input: &mut Input, c: usize, by: i32) {
     for start in &mut input.starts[c + 1..] {
         *start = start.wrapping_add_signed(by);
     }

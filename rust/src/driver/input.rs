@@ -1,4 +1,8 @@
 //! An input of an entry, owned: a pattern, or what is left of one after damage.
+use super::case::Case;
+use super::damage::{Damage, DAMAGES};
+use super::random::Xorshift;
+use super::smallest;
 use crate::{OriginalRow, Pattern};
 use std::fmt;
 
@@ -39,7 +43,30 @@ impl Input {
     }
 }
 
-/// As the recorded lines have it. A precision, as in `{:.9}`, is the most numbers of a list that are shown.
+impl Case for Input {
+    type Damage = Damage;
+
+    fn damages() -> Vec<Damage> {
+        DAMAGES.to_vec()
+    }
+
+    fn damage(&mut self, damage: Damage, random: &mut Xorshift) {
+        damage.apply(self, random);
+    }
+
+    fn matrix(&self) -> &Input {
+        self
+    }
+
+    fn timed(&self) -> minilp::Columns {
+        self.widened()
+    }
+
+    fn smaller(&self) -> Box<dyn Iterator<Item = Input> + '_> {
+        Box::new(smallest::smaller(self))
+    }
+}
+
 impl fmt::Display for Input {
     fn fmt(&self, f: &mut fmt::Formatter<'_>) -> fmt::Result {
         write!(f, "size {} entries {} starts", self.size, self.rows.len())?;
@@ -49,7 +76,8 @@ impl fmt::Display for Input {
     }
 }
 
-fn list(f: &mut fmt::Formatter<'_>, len: usize, numbers: impl Iterator<Item = u32>) -> fmt::Result {
+/// The numbers of a list, no more of them than the precision says.
+pub fn list(f: &mut fmt::Formatter<'_>, len: usize, numbers: impl Iterator<Item = u32>) -> fmt::Result {
     let shown = f.precision().unwrap_or(len).min(len);
     for number in numbers.take(shown) {
         write!(f, " {number}")?;

@@ -14,6 +14,8 @@ pub enum Need {
     Starts,
     /// One number for each entry.
     Entries,
+    /// One for each entry and one for each column, which covers the entries after an edit.
+    Edited,
 }
 
 impl Need {
@@ -24,6 +26,7 @@ impl Need {
             Need::Size => size,
             Need::Starts => size + 1,
             Need::Entries => input.rows.len(),
+            Need::Edited => input.rows.len() + size,
         }
     }
 }

@@ -50,8 +50,8 @@ pub fn hidden(size: u32, random: &mut Xorshift, mut length: impl FnMut(&mut Xors
     Input::from_columns(&columns)
 }
 
-// A list of distinct rows below `size`, in any order, and this row among them.
-fn distinct_with(row: u32, size: u32, len: u32, random: &mut Xorshift) -> Vec<u32> {
+/// A list of distinct rows below `size`, in any order, and this row among them.
+pub fn distinct_with(row: u32, size: u32, len: u32, random: &mut Xorshift) -> Vec<u32> {
     let mut rows = distinct(size, len, random);
     if !rows.contains(&row) {
         let at = random.below(len) as usize;
@@ -164,7 +164,8 @@ fn some_of(below: u32, most: u32, random: &mut Xorshift) -> Vec<u32> {
     distinct(below, len, random)
 }
 
-fn shuffled<T: Clone>(list: &[T], random: &mut Xorshift) -> Vec<T> {
+/// The same in any order.
+pub fn shuffled<T: Clone>(list: &[T], random: &mut Xorshift) -> Vec<T> {
     let count = list.len() as u32;
     distinct(count, count, random).into_iter().map(|k| list[k as usize].clone()).collect()
 }

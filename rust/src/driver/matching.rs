@@ -6,7 +6,7 @@ use super::matchable::{hidden, long_chain, wide_band, KINDS, WIDTH};
 use super::patterns::with_lengths;
 use super::searches::{matchable, rows_together, ruled, Failed, MOST_TRIED};
 use super::verdict::{compared, list, recorded, refused, Verdict};
-use super::{samples, Entry};
+use super::{original, samples, Entry};
 use crate::{find_diag_matching, Column, MatchingAnswer, MatchingLent, Refusal};
 
 pub const ENTRY: Entry = Entry {
@@ -32,6 +32,8 @@ enum Judged {
 }
 
 impl Verdict for Judged {
+    type Case = Input;
+
     type Answer = MatchingAnswer;
 
     const PLAN: &'static Plan = &Plan {
@@ -91,8 +93,7 @@ impl Verdict for Judged {
 
 /// On valid input the Rust decides; which search failed and what it visited are the rule's to say.
 pub fn judge_valid(input: &Input) -> Result<Result<Vec<Column>, Failed>, String> {
-    let original = minilp::find_diag_matching(input.size as usize, &input.widened());
-    let original: Option<Vec<Column>> = original.map(|row2col| row2col.iter().map(|&c| Column(c as u32)).collect());
+    let original = original::matching(input);
     if input.size <= MOST_TRIED && original.is_some() != matchable(input) {
         return Err("the judges disagree: the Rust and trying all choices".to_string());
     }
@@ -112,7 +113,7 @@ fn hall_set(input: &Input, failed: &Failed) -> Result<(), String> {
     }
 }
 
-fn kinds() -> [Benched; 4] {
+fn kinds() -> [Benched<Input>; 4] {
     [
         benched("five entries a column", |size, random| with_lengths(size, random, |_, _| 5)),
         benched("five entries a column, a perfect matching hidden", |size, random| hidden(size, random, |_| 5)),

@@ -34,6 +34,8 @@ enum Judged {
 }
 
 impl Verdict for Judged {
+    type Case = Input;
+
     type Answer = OrderAnswer;
 
     const PLAN: &'static Plan = &Plan {

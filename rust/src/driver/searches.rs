@@ -71,9 +71,28 @@ pub fn ruled(input: &Input) -> Ruled {
             None => return Ruled { matching: Err(Failed { column, visited: searches.visited }), paths },
         }
     }
-    // As many searches as rows, each of which took one more row: none is free.
-    let matching = searches.row2col.into_iter().map(|column| column.expect("every row is taken")).collect();
-    Ruled { matching: Ok(matching), paths }
+    Ruled { matching: Ok(taken(searches.row2col)), paths }
+}
+
+/// A search that found a row: the column of each row afterwards, and how many columns its path has.
+pub struct Moved {
+    pub row2col: Vec<Column>,
+    pub path: usize,
+}
+
+/// The rule's one search, from a column whose row has become free, where the others keep the rows that are matched to them.
+pub fn ruled_once(input: &Input, row2col: &[Column], from: Column) -> Result<Moved, Failed> {
+    let kept = row2col.iter().map(|&column| (column != from).then_some(column)).collect();
+    let mut searches = Searches { input, row2col: kept, visited: vec![false; row2col.len()] };
+    match searches.search(from) {
+        Some(path) => Ok(Moved { row2col: taken(searches.row2col), path }),
+        None => Err(Failed { column: from, visited: searches.visited }),
+    }
+}
+
+// As many columns have taken a row as there are rows: none is free.
+fn taken(row2col: Vec<Option<Column>>) -> Vec<Column> {
+    row2col.into_iter().map(|column| column.expect("every row is taken")).collect()
 }
 
 /// In how many rows the chosen columns have entries.

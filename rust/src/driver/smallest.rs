@@ -1,18 +1,19 @@
-//! An input that differs is made smaller as long as it still does.
+//! A case that differs is made smaller as long as it still does.
 use super::buffer::Room;
-use super::compare::Check;
+use super::case::Case;
 use super::input::Input;
 use super::random::Xorshift;
+use super::run::Check;
 use super::table::misshapen;
 use crate::OriginalRow;
 use std::ops::Range;
 
-/// How many numbers the search for a smaller input may go through, so that it ends for large ones too.
+/// How many numbers the search for a smaller case may go through, so that it ends for large ones too.
 const EFFORT: usize = 100_000_000;
 
-/// The smallest input found from this one that still differs, and what differs there.
-pub fn smallest(check: Check, input: &Input, what: String, room: Room, seed: u64) -> (Input, String) {
-    let (mut found, mut why) = (input.clone(), what);
+/// The smallest case found from this one that still differs, and what differs there.
+pub fn smallest<C: Case>(check: Check<C>, case: &C, what: String, room: Room, seed: u64) -> (C, String) {
+    let (mut found, mut why) = (case.clone(), what);
     let mut effort = EFFORT;
     while let Some(next) = next_smaller(check, &found, room, seed, &mut effort) {
         (found, why) = next;
@@ -20,14 +21,15 @@ pub fn smallest(check: Check, input: &Input, what: String, room: Room, seed: u64
     (found, why)
 }
 
-// An input smaller than this one that differs too, unless there is none or the effort is spent.
-fn next_smaller(check: Check, input: &Input, room: Room, seed: u64, effort: &mut usize) -> Option<(Input, String)> {
-    for input in smaller(input) {
-        let tries = tries(&input);
+// A case smaller than this one that differs too, unless there is none or the effort is spent.
+fn next_smaller<C: Case>(check: Check<C>, case: &C, room: Room, seed: u64, effort: &mut usize) -> Option<(C, String)> {
+    for case in case.smaller() {
+        let input = case.matrix();
+        let tries = tries(input);
         *effort = effort.checked_sub(tries as usize * (1 + input.starts.len() + input.rows.len()))?;
-        let what = (0..tries).find_map(|t| check(&input, room, &mut Xorshift::new(seed.wrapping_add(t))).err());
+        let what = (0..tries).find_map(|t| check(&case, room, &mut Xorshift::new(seed.wrapping_add(t))).err());
         if let Some(what) = what {
-            return Some((input, what));
+            return Some((case, what));
         }
     }
     None
@@ -42,15 +44,17 @@ fn tries(input: &Input) -> u64 {
     }
 }
 
-// Without half of the columns or entries, without a quarter, and so on; in the end with lower rows.
-fn smaller(input: &Input) -> impl Iterator<Item = Input> + '_ {
-    let levels = 0..usize::BITS;
-    let without = levels.flat_map(|level| without_columns(input, level).chain(without_entries(input, level)));
+/// Without half of the columns or entries, without a quarter, and so on; in the end with lower rows.
+pub fn smaller(input: &Input) -> impl Iterator<Item = Input> + '_ {
+    let without = LEVELS.flat_map(|level| without_columns(input, level).chain(without_entries(input, level)));
     without.chain(lowered(input))
 }
 
-// The parts of 0..len to leave out: at level 0 they are halves, at level 1 quarters, at the last single ones.
-fn parts(len: usize, level: u32) -> impl Iterator<Item = Range<usize>> {
+/// As many as halve any length.
+pub const LEVELS: Range<u32> = 0..usize::BITS;
+
+/// The parts of 0..len to leave out: at level 0 they are halves, at level 1 quarters, at the last single ones.
+pub fn parts(len: usize, level: u32) -> impl Iterator<Item = Range<usize>> {
     let width = len.div_ceil(2) >> level;
     let los = (0..len).step_by(width.max(1)).filter(move |_| width > 0);
     los.map(move |lo| lo..len.min(lo + width))
@@ -78,16 +82,16 @@ fn fewer_columns(input: &Input, part: Range<usize>) -> Input {
     Input::from_columns(&columns)
 }
 
-// Where the starts are no starts, they are only numbers.
-fn fewer_starts(input: &Input, part: Range<usize>) -> Input {
+/// Where the starts are no starts, they are only numbers.
+pub fn fewer_starts(input: &Input, part: Range<usize>) -> Input {
     let mut smaller = input.clone();
     smaller.size = input.size.saturating_sub(part.len() as u32);
     smaller.starts.drain(part);
     smaller
 }
 
-// The starts after an entry move with it; others, well formed or not, stay.
-fn without_entries(input: &Input, level: u32) -> impl Iterator<Item = Input> + '_ {
+/// The starts after an entry move with it; others, well formed or not, stay.
+pub fn without_entries(input: &Input, level: u32) -> impl Iterator<Item = Input> + '_ {
     parts(input.rows.len(), level).map(|part| {
         let moved = |start: &u32| start - ((*start as usize).clamp(part.start, part.end) - part.start) as u32;
         let starts = input.starts.iter().map(moved).collect();

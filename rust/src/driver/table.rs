@@ -2,8 +2,9 @@
 //!
 //! Each line of the table is a function that gives the place where it is refused. A line may take for granted
 //! that the lines before it let the input through.
+use super::edit::case::EditCase;
 use super::input::Input;
-use crate::Refusal;
+use crate::{OriginalRow, Refusal};
 
 pub const MAX_SIZE: u32 = 4_096;
 pub const MAX_ENTRIES: usize = 1_048_576;
@@ -67,7 +68,43 @@ pub fn empty_column(input: &Input) -> Option<u32> {
     (0..input.size).find(|&c| input.column(c as usize).is_empty())
 }
 
-/// Whether no buffer at all has changed after this refusal. After any other answer the needed workspace is zero.
+/// 13: the edited column not below n.
+pub fn edited_outside(case: &EditCase) -> Option<u32> {
+    whole(case.column.0 >= case.old.size)
+}
+
+/// 14: a row of the replacement not below n or repeated, at its position there.
+pub fn replacement_unfit(case: &EditCase) -> Option<u32> {
+    let rows = &case.rows;
+    let place = (0..rows.len()).find(|&i| rows[i].0 >= case.old.size || rows[..i].contains(&rows[i]));
+    place.map(|place| place as u32)
+}
+
+/// 15: no perfect matching of the old matrix, at the first row whose column is not below n, used before, or lacks that row.
+pub fn row_unmatched(case: &EditCase) -> Option<u32> {
+    (0..case.old.size).find(|&r| {
+        let column = case.matching[r as usize];
+        column.0 >= case.old.size
+            || case.matching[..r as usize].contains(&column)
+            || !case.old.column(column.0 as usize).contains(&OriginalRow(r))
+    })
+}
+
+/// 1 once more: too many entries after the edit.
+pub fn too_large_edited(case: &EditCase) -> Option<u32> {
+    let others = case.old.rows.len() - case.old.column(case.column.0 as usize).len();
+    whole(others + case.rows.len() > MAX_ENTRIES)
+}
+
+/// The lines that concern the edit alone, in the table's order, behind the common ones and before 9.
+pub fn of_edit(case: &EditCase) -> Option<Refusal> {
+    given(13, edited_outside(case))
+        .or_else(|| given(14, replacement_unfit(case)))
+        .or_else(|| given(15, row_unmatched(case)))
+        .or_else(|| given(1, too_large_edited(case)))
+}
+
+/// Whether no buffer at all has changed after this refusal of the common ones. After any other answer the needed workspace is zero.
 pub fn changes_nothing(number: u32) -> bool {
     matches!(number, 1 | 2 | 5 | 3)
 }
