@@ -1,5 +1,5 @@
 pub mod Outcome
-pub mod Samples
+pub mod EditSamples
 pub mod Tested
 pub mod EditedEntries
 pub mod ValidEdit

@@ -11,7 +11,7 @@ use Rattle.matching.specs.Outcome.{marksOf}
 use Rattle.rematching.specs.Checks.{columnOutside, unfitRow, mismatchedRow, grownTooLarge, late}
 use Rattle.rematching.specs.Rematching.{rematching}
 use Rattle.edit.specs.Outcome.{replaced, outcome}
-use Rattle.edit.specs.Samples.{EditSample, editSamples}
+use Rattle.edit.specs.EditSamples.{EditSample, editSamples}
 
 -- each sample gives what it should
 pub samples-hold : map (λ (s : EditSample). outcome (s .size) (s .starts) (s .rows) (s .edited) (s .new) (s .before)) editSamples
