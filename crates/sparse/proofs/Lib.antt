@@ -7,6 +7,7 @@ pub mod Matrix
 pub mod Marks
 pub mod Scans
 pub mod Tallies
+pub mod Rises
 pub mod Passing
 pub mod Early
 pub mod Inverses

@@ -2,7 +2,8 @@
 use Prim.Native.Nat.{ℕ, zero, suc, _+_, _-_, _<_, _≤_}
 use mathlib.Core.Path.{_≡_}
 use mathlib.Core.List.{List}
-use mathlib.Core.Bool.{true, false}
+use mathlib.Core.Bool.{Bool, true, false, _&&_}
+use lib.Dec.{ltb, leb}
 use lib.ListN.{length, getD, set}
 use Rattle.sparse.specs.Refusals.{repeatsAt}
 
@@ -37,3 +38,19 @@ pub record Counted (size : ℕ) (starts rows : List ℕ) (n r : ℕ) : Type 0 wh
   pub few : r ≤ n
   pub none : r ≡ 0 → (k : ℕ) → k < n → repeatsAt size starts rows k ≡ false
   pub met : 0 < r → (k : ℕ) × (k < n) × (repeatsAt size starts rows k ≡ true)
+
+-- the row after place k is not above the row there
+abbrev pub rowFallsAt : List ℕ → ℕ → Bool
+rowFallsAt rows k = leb (getD rows (k + 1) 0) (getD rows k 0)
+
+-- there is a row before place lo, and the first of the rows lo..hi is not above it
+abbrev pub fallsInto : List ℕ → ℕ → ℕ → Bool
+fallsInto rows lo hi = ltb 0 lo && ltb lo hi && leb (getD rows lo 0) (getD rows (lo - 1) 0)
+
+-- the second row of column c is not above its first
+abbrev pub opensFalling : List ℕ → List ℕ → ℕ → Bool
+opensFalling starts rows c = fallsInto rows (getD starts c 0 + 1) (getD starts (c + 1) 0)
+
+-- the first row of column c is not above the last row before it
+abbrev pub entersFalling : List ℕ → List ℕ → ℕ → Bool
+entersFalling starts rows c = fallsInto rows (getD starts c 0) (getD starts (c + 1) 0)

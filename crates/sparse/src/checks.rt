@@ -1,17 +1,18 @@
 // The checks of a pattern, in the table's order. Each equals its row of the table, for any slices that the checks before it let through.
 ghost use mathlib.Core.Path.{_≡_};
-ghost use Prim.Native.Nat.{_+_, _-_, _≤_};
-ghost use mathlib.Core.Bool.{_||_};
+ghost use Prim.Native.Nat.{ℕ, _+_, _-_, _<_, _≤_};
+ghost use mathlib.Core.Bool.{true, false, _||_};
 ghost use mathlib.Core.List.{List};
 ghost use lib.Dec.{ltb};
 ghost use lib.ListN.{length};
-ghost use Rattle.graph.specs.Counting.{first, some};
+ghost use Rattle.graph.specs.Counting.{bit, count, first, some};
 ghost use Rattle.sparse.specs.Limits.{maxSize, maxEntries};
 ghost use Rattle.sparse.specs.Matrix.{Shaped, RowsBelow};
 ghost use Rattle.sparse.specs.Refusals.{firstRefusal, Buffer, oneShort, early};
 ghost use Rattle.sparse.specs.Refusals.{tooLarge, misshapen, rowOutside, repeatedRow, emptyColumn};
 ghost use Rattle.sparse.specs.Refusals.{fallsAt, outsideAt, repeatsAt, emptyAt};
 ghost use Rattle.sparse.specs.Parts.{ZeroBelow, Unmarked, Scanned, Tallied, Counted, marked};
+ghost use Rattle.sparse.specs.Parts.{rowFallsAt, fallsInto, opensFalling, entersFalling};
 use super::Checked;
 use super::MAX_ENTRIES;
 use super::MAX_SIZE;
@@ -228,14 +229,106 @@ fn first_repeat(size: u32, starts: &[u32], rows: &[u32], marks: &mut [u32]) -> u
     rows.len() as u32
 }
 
-// Refusal 4, with marks for the rows that are zero, and are zero again afterwards. Nearly every input passes, and a count finds that
-// sooner than a search that may stop at each row; the place is looked for only where there is one.
+// 1 for true and 0 for false.
+fn flag(test: bool) -> u32
+    ensures { λ r. ⌜ r ≡ bit test ⌝ }
+{
+    if test { 1 } else { 0 }
+}
+
+fn least(a: u32, b: u32) -> u32
+    ensures { λ r. ⌜ (r ≤ a) × (r ≤ b) ⌝ }
+{
+    if a < b { a } else { b }
+}
+
+// Whether there is a row before place lo, and the first of the rows lo..hi is not above it.
+fn falls_into(rows: &[u32], lo: u32, hi: u32) -> bool
+    requires { ⌜ hi ≤ length (now rows) ⌝ }
+    ensures { λ r. ⌜ r ≡ fallsInto (now (rows .entry)) lo hi ⌝ }
+{
+    if lo == 0 {
+        return false;
+    }
+    if hi <= lo {
+        return false;
+    }
+    get(rows, lo) <= get(rows, lo - 1)
+}
+
+// Whether one of the first few columns has a second row that is not above its first.
+fn any_opens_falling(size: u32, few: u32, starts: &[u32], rows: &[u32]) -> bool
+    requires { ⌜ Shaped size (now starts) (now rows) × (few ≤ size) ⌝ }
+    ensures { λ r. ⌜ r ≡ some (opensFalling (now (starts .entry)) (now (rows .entry))) few ⌝ }
+{
+    let mut found = false;
+    let mut c = 0u32;
+    while c < few {
+        let second = get(starts, c) + 1;
+        found = or(falls_into(rows, second, get(starts, c + 1)), found);
+        c += 1;
+    }
+    found
+}
+
+// How many of the places below last have a row that the next one is not above, whatever their columns: it reads no start, so that
+// several rows are compared at once.
+fn count_row_falls(rows: &[u32], last: u32) -> u32
+    requires { ⌜ (last < length (now rows)) × (last ≤ maxEntries) ⌝ }
+    ensures { λ r. ⌜ r ≡ count (rowFallsAt (now (rows .entry))) last ⌝ }
+{
+    let mut falls = 0u32;
+    let mut k = 0u32;
+    while k < last {
+        falls += flag(get(rows, k + 1) <= get(rows, k));
+        k += 1;
+    }
+    falls
+}
+
+// How many columns have a first row that is not above the last row before it.
+fn count_falls_between(size: u32, starts: &[u32], rows: &[u32]) -> u32
+    requires { ⌜ Shaped size (now starts) (now rows) ⌝ }
+    ensures { λ r. ⌜ r ≡ count (entersFalling (now (starts .entry)) (now (rows .entry))) size ⌝ }
+{
+    let mut falls = 0u32;
+    let mut c = 0u32;
+    while c < size {
+        falls += flag(falls_into(rows, get(starts, c), get(starts, c + 1)));
+        c += 1;
+    }
+    falls
+}
+
+// Whether the rows of each column are found to rise, so that none repeats one: then every fall is between two columns. A look at
+// the first few columns saves the two counts where the rows are in no order.
+fn all_rise(size: u32, starts: &[u32], rows: &[u32]) -> bool
+    requires { ⌜ Shaped size (now starts) (now rows) ⌝ }
+    ensures { λ r. ⌜ (r ≡ true → (k : ℕ) → k < length (now (rows .entry))
+        → repeatsAt size (now (starts .entry)) (now (rows .entry)) k ≡ false) ⌝ }
+{
+    if rows.len() == 0 {
+        return false;
+    }
+    if any_opens_falling(size, least(size, 16), starts, rows) {
+        return false;
+    }
+    let last = rows.len() as u32 - 1;
+    count_row_falls(rows, last) == count_falls_between(size, starts, rows)
+}
+
+// Refusal 4, with marks for the rows that are zero, and are zero again afterwards. Nearly every input passes: where the rows of each
+// column rise no mark is needed to find that, and else a count finds it sooner than a search that may stop at each row; the place is
+// looked for only where there is one.
 pub fn check_repeats(size: u32, starts: &[u32], rows: &[u32], marks: &mut [u32]) -> Checked
     requires { ⌜ Shaped size (now starts) (now rows) × RowsBelow (now rows) size ⌝ }
     requires { ⌜ (size ≤ length (now marks)) × ZeroBelow size (now marks) ⌝ }
     ensures { λ r. ⌜ r ≡ repeatedRow size (now (starts .entry)) (now (rows .entry)) ⌝ }
     ensures { λ r. ⌜ now (marks .exit) ≡ now (marks .entry) ⌝ }
 {
+    if all_rise(size, starts, rows) {
+        return Checked::Passed;
+    }
     if count_repeats(size, starts, rows, marks) == 0 {
         return Checked::Passed;
     }

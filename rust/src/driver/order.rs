@@ -1,9 +1,12 @@
 //! The order of columns by length: its judge, its recorded lines, its times.
 use super::bench::{bench, benched};
+use super::compare::Kind;
+use super::damage::Damage;
 use super::input::Input;
 use super::lent::{fill, output, work, Lent, Need::Size, Plan};
 use super::original::quietly;
-use super::patterns::with_lengths;
+use super::patterns::{random, rising, with_lengths, Shape};
+use super::random::Xorshift;
 use super::table::{self, given};
 use super::verdict::{compared, list, recorded, refused, Verdict};
 use super::{samples, Entry};
@@ -12,15 +15,47 @@ use crate::{order_simple, Column, OrderAnswer, OrderLent, Refusal};
 pub const ENTRY: Entry = Entry {
     name: "order",
     kind: 1,
-    compare: |seed| compared::<Judged>(&[], seed),
+    compare: |seed| compared::<Judged>(&RISING, seed),
     record: |seed| recorded::<Judged>(&samples::patterns(seed)),
     bench_note: "Cleared are the four workspace slices.",
     bench: |seed| {
         let five = benched("five entries a column", |size, random| with_lengths(size, random, |_, _| 5));
         let any = benched("1 to 9 entries a column", |size, random| with_lengths(size, random, |random, _| random.between(1, 9)));
-        bench::<Judged, _>(&[five, any], |_| String::new(), minilp::order_simple, seed)
+        let five_rising = benched("five entries a column, rows rising", |size, random| rising(&with_lengths(size, random, |_, _| 5)));
+        let any_rising = benched("1 to 9 entries a column, rows rising", |size, random| {
+            rising(&with_lengths(size, random, |random, _| random.between(1, 9)))
+        });
+        bench::<Judged, _>(&[five, any, five_rising, any_rising], |_| String::new(), minilp::order_simple, seed)
     },
 };
+
+/// Kinds made for the duplicate test, which looks at no mark where the rows of each column rise.
+const RISING: [Kind; 3] = [
+    Kind { name: "rows rising", make: all_rising },
+    Kind { name: "rows rising, one of them twice", make: rising_twice },
+    Kind { name: "rows rising but for two of the last column, exchanged", make: rising_but_two },
+];
+
+fn all_rising(size: u32, rng: &mut Xorshift) -> Input {
+    let empties = rng.one_in(4);
+    rising(&random(size, Shape::Sparse, empties, rng))
+}
+
+fn rising_twice(size: u32, rng: &mut Xorshift) -> Input {
+    let mut input = all_rising(size, rng);
+    Damage::RowTwice.apply(&mut input, rng);
+    rising(&input)
+}
+
+fn rising_but_two(size: u32, rng: &mut Xorshift) -> Input {
+    let mut input = all_rising(size, rng);
+    if !input.rows.is_empty() {
+        let c = (0..size as usize).filter(|&c| !input.column(c).is_empty()).last().expect("there is an entry");
+        let (lo, hi) = (input.starts[c], input.starts[c + 1] - 1);
+        input.rows.swap(rng.between(lo, hi) as usize, rng.between(lo, hi) as usize);
+    }
+    input
+}
 
 fn lend(lent: &mut Lent) -> OrderLent<'_> {
     let ([score2head, prev, next, marks, orig2new], [new2orig]) = lent.lend();

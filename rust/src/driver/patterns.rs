@@ -93,3 +93,13 @@ pub fn random(size: u32, shape: Shape, empties: bool, random: &mut Xorshift) -> 
     }
     with_lengths(size, random, |random, _| any(random))
 }
+
+/// The same pattern with the rows of each column in rising order, as a sparse library stores them.
+pub fn rising(input: &Input) -> Input {
+    let columns = (0..input.size as usize).map(|c| {
+        let mut rows: Vec<u32> = input.column(c).iter().map(|row| row.0).collect();
+        rows.sort_unstable();
+        rows
+    });
+    Input::from_columns(&columns.collect::<Vec<_>>())
+}
