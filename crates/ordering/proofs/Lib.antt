@@ -9,8 +9,8 @@ pub mod Queues
 pub mod Beyond
 pub mod ByLength
 pub mod InRow
-pub mod OrderLoops
 pub mod OrderWhole
+pub mod Ranks
 pub mod OrderChecks
 pub mod OrderOutcome
 pub mod OrderSamples
