@@ -1,4 +1,6 @@
-// What a case of every kind begins with: size, entries, the starts, the rows, answer, place. The lists of its kind follow.
+// What a case of every kind begins with: size, entries, the starts, the rows. Answer and place come behind what its kind adds, and the
+// lists of its kind follow.
+ghost use mathlib.Core.Path.{_≡_};
 ghost use Prim.Native.Nat.{_+_, _≤_};
 use super::lists::differs;
 use super::lists::either;
@@ -14,10 +16,18 @@ const MAX_ENTRIES: u32 = 4096;
 // Of each lent buffer something lies beyond the largest size.
 pub const LENT: usize = 72;
 
-// The same for a buffer that goes by entries: something lies beyond the most of them.
-pub const LENT_ENTRIES: usize = 4104;
+// The same for a buffer that goes by entries: something lies beyond the most of them and the rows of one more column.
+pub const LENT_ENTRIES: usize = 4168;
 
-// The stored numbers of a case, and the place after them, where its lists begin. All are 0 where it is over a limit.
+// The size and the entries of a case, and the place after its rows. All are 0 where it is over a limit.
+pub struct Pattern {
+    pub is_small: bool,
+    pub size: u32,
+    pub entries: u32,
+    pub end: usize,
+}
+
+// The stored numbers of a case, and the place after them, where its lists begin. They count only where it is within the limits.
 pub struct Case {
     pub is_small: bool,
     pub size: u32,
@@ -27,21 +37,19 @@ pub struct Case {
     pub lists: usize,
 }
 
-fn too_large() -> Case
-    ensures { λ r. ⌜ r .lists ≤ 64 + 4096 + 5 ⌝ }
+fn too_large() -> Pattern
+    ensures { λ r. ⌜ (r .size ≤ 64) × (r .end ≤ 64 + 4096 + 3) ⌝ }
 {
-    Case {
+    Pattern {
         is_small: false,
         size: 0,
         entries: 0,
-        answer: 0,
-        place: 0,
-        lists: 0,
+        end: 0,
     }
 }
 
-pub fn read_case(numbers: &[u32]) -> Case
-    ensures { λ r. ⌜ r .lists ≤ 64 + 4096 + 5 ⌝ }
+pub fn read_pattern(numbers: &[u32]) -> Pattern
+    ensures { λ r. ⌜ (r .size ≤ 64) × (r .end ≤ 64 + 4096 + 3) ⌝ }
 {
     let size = number_or(numbers, 0, 0);
     let entries = number_or(numbers, 1, 0);
@@ -51,15 +59,35 @@ pub fn read_case(numbers: &[u32]) -> Case
     if MAX_ENTRIES < entries {
         return too_large();
     }
-    let at = 3 + size as usize + entries as usize;
-    Case {
+    Pattern {
         is_small: true,
         size,
         entries,
+        end: 3 + size as usize + entries as usize,
+    }
+}
+
+// The case of a pattern whose answer stands at a place. No kind adds more than two numbers and two lists of 64 before it.
+pub fn answered(numbers: &[u32], pattern: Pattern, at: usize) -> Case
+    requires { ⌜ at ≤ 64 + 4096 + 3 + 2 + 64 + 64 ⌝ }
+    ensures { λ r. ⌜ r .lists ≡ at + 2 ⌝ }
+{
+    Case {
+        is_small: pattern.is_small,
+        size: pattern.size,
+        entries: pattern.entries,
         answer: number_or(numbers, at, 0),
         place: number_or(numbers, at + 1, 0),
         lists: at + 2,
     }
+}
+
+// The case of a kind that adds nothing.
+pub fn read_case(numbers: &[u32]) -> Case
+    ensures { λ r. ⌜ r .lists ≤ 64 + 4096 + 5 ⌝ }
+{
+    let pattern = read_pattern(numbers);
+    answered(numbers, pattern, pattern.end)
 }
 
 pub fn starts(numbers: &[u32], case: Case) -> &[u32] {

@@ -46,11 +46,15 @@ pub fn work_differs(case: Case, visited: &[u32], cheap: &[u32], scol: &[u32], sa
     or(or(differs(visited, work), differs(cheap, work)), stack)
 }
 
+// Whether the Hall marks are left other than stored. With a matching they are zero.
+pub fn marks_differ(case: Case, list: &[u32], hall: &[u32]) -> bool {
+    output_differs(case.answer == 0, case.size as usize, list, hall)
+}
+
 // Whether an output is left other than stored. The stored list is one of them, and the other is zero.
 pub fn matched_differs(case: Case, list: &[u32], row2col: &[u32], hall: &[u32]) -> bool {
-    let size = case.size as usize;
-    let matched = output_differs(case.answer == 9, size, list, row2col);
-    or(matched, output_differs(case.answer == 0, size, list, hall))
+    let matched = output_differs(case.answer == 9, case.size as usize, list, row2col);
+    or(matched, marks_differ(case, list, hall))
 }
 
 // Calls the function on buffers that hold junk.

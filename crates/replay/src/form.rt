@@ -1,6 +1,6 @@
 // Cases of kind 3, `triangular::find_block_diag_form`: the first list is that of kind 2. Where the answer is 0 the blocks follow: how
 // many there are, their columns, their starts.
-ghost use Prim.Native.Nat.{_≤_};
+ghost use Prim.Native.Nat.{_+_, _*_, _≤_};
 ghost use lib.ListN.{length};
 use super::Replayed;
 use super::case::Case;
@@ -26,16 +26,17 @@ use sparse::checks::or;
 use triangular::BlockAnswer;
 
 // Whether an answer, or its count of blocks, is other than the stored one.
-fn answers_other(answer: BlockAnswer, case: Case, count: u32) -> bool {
+pub fn answers_other(answer: BlockAnswer, case: Case, count: u32) -> bool {
     match answer {
         BlockAnswer::Accepted(k) => or(is_other(case, 0, 0), k != count),
         BlockAnswer::Refused(r) => is_other(case, r.number, r.place),
     }
 }
 
-// Whether what the two passes work in is left other than the answer leaves it.
-fn passes_differ(
+// Whether what the two passes work in is left other than the answer leaves it. The need of backrows is the caller's to say.
+pub fn passes_differ(
     case: Case,
+    back: usize,
     finished: &[u32],
     col2row: &[u32],
     backstarts: &[u32],
@@ -45,13 +46,13 @@ fn passes_differ(
     let size = case.size as usize;
     let work = part(&zeros, 0, cleared(case, size));
     let starts = part(&zeros, 0, cleared(case, size + 1));
-    let entries = part(&zeros, 0, cleared(case, case.entries as usize));
-    let back = or(differs(backstarts, starts), differs(backrows, entries));
-    or(or(differs(finished, work), differs(col2row, work)), back)
+    let rows = part(&zeros, 0, cleared(case, back));
+    let turned = or(differs(backstarts, starts), differs(backrows, rows));
+    or(or(differs(finished, work), differs(col2row, work)), turned)
 }
 
 // Whether the blocks are left other than stored. Without a matching they are zero.
-fn blocks_differ(case: Case, stored: &[u32], blockcols: &[u32], blockstarts: &[u32]) -> bool {
+pub fn blocks_differ(case: Case, stored: &[u32], blockcols: &[u32], blockstarts: &[u32]) -> bool {
     let is_unmatched = case.answer == 9;
     let size = case.size as usize;
     let columns = part(stored, 1, size);
@@ -60,6 +61,13 @@ fn blocks_differ(case: Case, stored: &[u32], blockcols: &[u32], blockstarts: &[u
         output_differs(is_unmatched, size, columns, blockcols),
         output_differs(is_unmatched, size + 1, starts, blockstarts),
     )
+}
+
+// How many numbers the stored blocks have, with their count.
+pub fn listed_blocks(case: Case) -> usize
+    ensures { λ r. ⌜ r ≤ 2 * (case .size + 1) ⌝ }
+{
+    listed_accepted(case, 2 * (case.size as usize + 1))
 }
 
 // Calls the function on buffers that hold junk.
@@ -94,7 +102,8 @@ fn agrees(case: Case, starts: &[u32], rows: &[u32], list: &[u32], stored: &[u32]
         &mut blockstarts,
     );
     let walks = work_differs(case, &visited, &cheap, &scol, &sat);
-    let passes = passes_differ(case, &finished, &col2row, &backstarts, &backrows);
+    let back = case.entries as usize;
+    let passes = passes_differ(case, back, &finished, &col2row, &backstarts, &backrows);
     let matched = matched_differs(case, list, &row2col, &hall);
     let blocks = blocks_differ(case, stored, &blockcols, &blockstarts);
     let lent = or(or(walks, passes), or(matched, blocks));
@@ -110,7 +119,7 @@ pub fn replay_case(numbers: &[u32]) -> Replayed
     }
     let each = listed(case);
     let blocks = case.lists + each;
-    let more = listed_accepted(case, 2 * (case.size as usize + 1));
+    let more = listed_blocks(case);
     let agrees = agrees(
         case,
         starts(numbers, case),

@@ -3,6 +3,7 @@ ghost use Prim.Native.Nat.{_≤_};
 ghost use lib.ListN.{length};
 
 mod case;
+mod column;
 mod diagonal;
 mod form;
 mod lists;
@@ -13,12 +14,12 @@ use libc::STDIN_FILENO;
 use libc::STDOUT_FILENO;
 use text::read_numbers;
 
-const MAX_TEXT: usize = 131072;
+const MAX_TEXT: usize = 163840;
 
 // One byte more, to tell the longest text from a longer one.
-const TEXT_ROOM: usize = 131073;
+const TEXT_ROOM: usize = 163841;
 
-// One number more than the longest text holds.
+// A text with more numbers is malformed behind them.
 const NUMBERS_ROOM: usize = 65537;
 
 // What became of a case, and how many numbers it has after its kind.
@@ -60,6 +61,7 @@ fn replay_case(kind: u32, numbers: &[u32]) -> Replayed
         1 => order::replay_case(numbers),
         2 => diagonal::replay_case(numbers),
         3 => form::replay_case(numbers),
+        4 => column::replay_case(numbers),
         _ => malformed(),
     }
 }
