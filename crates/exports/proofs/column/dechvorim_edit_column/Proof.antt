@@ -57,14 +57,17 @@ returns : tie.Need-returns
 returns c =
     let at-after-answer = c .before in
     let at-after-edit-column = at-after-answer .before .before .before .before .before .before .before .before .before .before
-        .before .before .before .before .before .before .before .before .before .before .before .before .before .before .before
-        .before in
+    .before .before .before .before .before .before .before .before .before .before .before .before .before .before .before
+    .before in
     let told = at-after-answer .answer .given .1 in (
       sym (ap numberOf told) ∙ ap (λ (x : Outcome). numberOf (x .answer)) (at-after-edit-column .edit-column .ensures .0),
       (
         sym (ap placeOf told) ∙ ap (λ (x : Outcome). placeOf (x .answer)) (at-after-edit-column .edit-column .ensures .0),
-        (sym (ap countOf told) ∙ ap (λ (x : Outcome). countOf (x .answer)) (at-after-edit-column .edit-column .ensures .0), ap (λ
-            (x : Outcome). x .after) (at-after-edit-column .edit-column .ensures .0)),
+        (
+          sym (ap countOf told) ∙ ap (λ (x : Outcome). countOf (x .answer)) (at-after-edit-column .edit-column .ensures .0),
+          ap (λ
+              (x : Outcome). x .after) (at-after-edit-column .edit-column .ensures .0),
+        ),
       ),
     )
 
@@ -108,14 +111,17 @@ returns-2 : tie.Need-returns-2
 returns-2 c =
     let at-after-answer2 = c .before in
     let at-after-edit-column = at-after-answer2 .before .before .before .before .before .before .before .before .before .before
-        .before .before .before .before .before .before .before .before .before .before .before .before .before .before .before
-        .before in
+    .before .before .before .before .before .before .before .before .before .before .before .before .before .before .before
+    .before in
     let told = at-after-answer2 .answer2 .given .1 in (
       sym (ap numberOf told) ∙ ap (λ (x : Outcome). numberOf (x .answer)) (at-after-edit-column .edit-column .ensures .0),
       (
         sym (ap placeOf told) ∙ ap (λ (x : Outcome). placeOf (x .answer)) (at-after-edit-column .edit-column .ensures .0),
-        (sym (ap countOf told) ∙ ap (λ (x : Outcome). countOf (x .answer)) (at-after-edit-column .edit-column .ensures .0), ap (λ
-            (x : Outcome). x .after) (at-after-edit-column .edit-column .ensures .0)),
+        (
+          sym (ap countOf told) ∙ ap (λ (x : Outcome). countOf (x .answer)) (at-after-edit-column .edit-column .ensures .0),
+          ap (λ
+              (x : Outcome). x .after) (at-after-edit-column .edit-column .ensures .0),
+        ),
       ),
     )
 
