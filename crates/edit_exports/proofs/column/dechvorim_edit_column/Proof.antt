@@ -2,10 +2,10 @@
 use Rattle.triangular.specs.Outcome.{Outcome, numberOf, placeOf, countOf}
 use mathlib.Core.Path.{sym, ap, _∙_}
 use borrow.Author.Needs.{needs}
-use Rattle.exports.proofs.column.dechvorim_edit_column.Statement.{statement}
-use Rattle.exports.proofs.column.dechvorim_edit_column.Tie as tie
-use Rattle.exports.proofs.column.dechvorim_edit_column.Reads as reads
-use Rattle.exports.proofs.column.dechvorim_edit_column.Lts as lts
+use Rattle.edit_exports.proofs.column.dechvorim_edit_column.Statement.{statement}
+use Rattle.edit_exports.proofs.column.dechvorim_edit_column.Tie as tie
+use Rattle.edit_exports.proofs.column.dechvorim_edit_column.Reads as reads
+use Rattle.edit_exports.proofs.column.dechvorim_edit_column.Lts as lts
 use Rattle.edit.proofs.edit_column.Reads as edit-column-reads
 
 edit-column-requires : tie.Need-edit-column-requires
