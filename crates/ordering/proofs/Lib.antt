@@ -13,4 +13,4 @@ pub mod OrderWhole
 pub mod Ranks
 pub mod OrderChecks
 pub mod OrderOutcome
-pub mod OrderSamples
+pub mod BenchSamples
