@@ -1,4 +1,6 @@
 // The blocks of a matrix under a perfect matching: its graph reversed, and walked twice.
+#![tactic(auto)]
+
 pub mod cut;
 pub mod reverse;
 pub mod walk;

@@ -1,4 +1,6 @@
 // The edit of one column of a matrix.
+#![tactic(auto)]
+
 pub mod entry;
 pub mod valid;
 

@@ -107,9 +107,9 @@ module _ {Edge : ℕ → ℕ → Type 0} (N : ℕ → Type 0) (kept : (u z : ℕ
   -- a path to x from y ∷ s leaves it, by an edge to one that reaches y; so x reaches y
   leave : (y : ℕ) (s : List ℕ) → ¬ Mem x (y ∷ s) → Settled (y ∷ s)
       → ((u z : ℕ) → Mem u (y ∷ s) → Edge u z → Mem z (y ∷ s) ⊎ Reach Edge z y)
-      → (u : ℕ) → N u → Mem u (y ∷ s) → Reach Edge u x → Reach Edge x y
-  leave y s out S F u n i here = absurd (out i)
-  leave y s out S F u n i (step {b = z} h p) = go (λ j. leave y s out S F z (kept u z n h) j p) (F u z i h)
+      → (u : ℕ) → Reach Edge u x → Mem u (y ∷ s) → N u → Reach Edge x y
+  leave y s out S F u here i n = absurd (out i)
+  leave y s out S F u (step {b = z} h p) i n = go (λ j. leave y s out S F z p j (kept u z n h)) (F u z i h)
     where
       go : (Mem z (y ∷ s) → Reach Edge x y) → Mem z (y ∷ s) ⊎ Reach Edge z y → Reach Edge x y
       go on (inl j) = on j
@@ -122,7 +122,7 @@ module _ {Edge : ℕ → ℕ → Type 0} (N : ℕ → Type 0) (kept : (u z : ℕ
     where
       go : (z : ℕ) → N z → Reach Edge z x → Mem z (y ∷ s) ⊎ Reach Edge x z → Mem z s ⊎ Reach Edge x z
       go z n p (inr q) = inr q
-      go z n p (inl i) = ⊎_elim (λ e. inr (reach_to (leave y s out S F.1 z n i p) (sym e))) (λ j. inl j) (Memᴰ.cases_cons i)
+      go z n p (inl i) = ⊎_elim (λ e. inr (reach_to (leave y s out S F.1 z p i n) (sym e))) (λ j. inl j) (Memᴰ.cases_cons i)
 
   -- the root x of a block reaches whatever reaches it
   pub returns : (before : List ℕ) → FinishingOrder Edge (x ∷ before) → Once (x ∷ before)

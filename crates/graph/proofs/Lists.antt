@@ -27,6 +27,7 @@ elem_mem x (y ∷ ys) e = go (λ f. elem_mem x ys f) (ℕ_discrete x y)
     go ih (no h) = Memᴰ.tail (ih (rw (ne_eqb x y h) at e))
 
 pub mem_elem : (x : ℕ) (l : List ℕ) → Mem x l → elem x l ≡ true
+mem_elem x [] i = absurd (Memᴰ.not-nil i)
 mem_elem x (y ∷ ys) (Memᴰ.head h) = rw (eq-eqb x y h)
 mem_elem x (y ∷ ys) (Memᴰ.tail i) = go (mem_elem x ys i) (eqb x y)
   where
@@ -42,6 +43,7 @@ elem_not x l h = is_false (elem x l) (λ e. h (elem_mem x l e))
 
 -- a member stands at some place
 pub mem_get_or : (l : List ℕ) (x : ℕ) → Mem x l → (i : ℕ) × (i < length l) × (get_or l i 0 ≡ x)
+mem_get_or [] x i = absurd (Memᴰ.not-nil i)
 mem_get_or (y ∷ ys) x (Memᴰ.head e) = (0, omega arith, sym e)
 mem_get_or (y ∷ ys) x (Memᴰ.tail m) = let t = mem_get_or ys x m in (suc t.0, omega (arith, t.1), t.2)
 
@@ -163,6 +165,7 @@ range_is n x = (
 
 pub keep_has : (p : ℕ → Bool) (l : List ℕ) (x : ℕ) → Mem x l → p x ≡ true → Mem x (keep p l)
 unfolding keep
+keep_has p [] x i e = absurd (Memᴰ.not-nil i)
 keep_has p (y ∷ l) x (Memᴰ.head h) e = rw (ap p (sym h) ∙ e) (Memᴰ.head h)
 keep_has p (y ∷ l) x (Memᴰ.tail i) e = go (p y) (keep_has p l x i e)
   where

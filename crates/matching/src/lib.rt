@@ -1,4 +1,6 @@
 // The matching of rows to columns.
+#![tactic(auto)]
+
 pub mod diagonal;
 pub mod search;
 

@@ -1,4 +1,6 @@
 // Orders, matchings and block forms of a sparse matrix's pattern.
+#![tactic(auto)]
+
 pub mod order;
 pub mod queue;
 

@@ -1,3 +1,5 @@
 // A perfect matching kept over the edit of one column.
+#![tactic(auto)]
+
 pub mod checks;
 pub mod rematch;

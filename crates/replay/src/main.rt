@@ -1,4 +1,6 @@
 // Replays stored cases: each calls a function of the library, and its answer and every lent buffer are compared with what is stored.
+#![tactic(auto)]
+
 ghost use Rattle.std.specs.Prelude.{◌≤◌, length};
 
 mod case;

@@ -1,4 +1,6 @@
 // The storage of a sparse matrix's pattern: its kinds of number, its limits, its refusals, and the checks of input.
+#![tactic(auto)]
+
 ghost use Rattle.std.specs.Prelude.{◌≡◌};
 ghost use Rattle.sparse.specs.Refusals.{refused_if, refusal};
 
@@ -7,13 +9,13 @@ pub mod columns;
 pub mod slices;
 
 // The three kinds of number that never meet. A bare number that means one of them stands only inside a slice.
-#[derive(Drop)]
+#[derive(Clone, Copy)]
 pub struct Column(pub u32);
 
-#[derive(Drop)]
+#[derive(Clone, Copy)]
 pub struct OriginalRow(pub u32);
 
-#[derive(Drop)]
+#[derive(Clone, Copy)]
 pub struct NewRow(pub u32);
 
 pub const MAX_SIZE: u32 = 4096;
@@ -24,14 +26,14 @@ pub const MAX_ENTRIES: u32 = 1048576;
 pub const NONE: u32 = 4294967295;
 
 // A refusal of the table: its number and its place.
-#[derive(Drop)]
+#[derive(Clone, Copy)]
 pub struct Refusal {
     pub number: u32,
     pub place: u32,
 }
 
 // What a check of input finds.
-#[derive(Drop)]
+#[derive(Clone, Copy)]
 pub enum Checked {
     Passed,
     Refused(Refusal),

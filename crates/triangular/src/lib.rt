@@ -1,4 +1,6 @@
 // The lower block triangular form of a matrix.
+#![tactic(auto)]
+
 pub mod entry;
 pub mod form;
 pub mod matched;
