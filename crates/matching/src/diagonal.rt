@@ -16,7 +16,7 @@ use sparse::checks::{check_early, check_repeats, is_short, or};
 use sparse::slices::{by_column, clear, fill, put_by_column};
 use sparse::{Checked, Column, NONE, Refusal};
 
-#[derive(Drop)]
+#[derive(Clone, Copy)]
 pub enum MatchingAnswer {
     Accepted,
     Refused(Refusal),
