@@ -13,7 +13,7 @@ use sparse::slices::{by_row, clear, put_by_column};
 use sparse::{Column, OriginalRow, Refusal};
 
 // Accepted with the number of blocks.
-#[derive(Drop)]
+#[derive(Clone, Copy)]
 pub enum BlockAnswer {
     Accepted(u32),
     Refused(Refusal),
