@@ -5,10 +5,7 @@ use native.Mathlib.Omega.{arith}
 use native.Mathlib.Decide.{dec_lt}
 use Prim.Native.Nat.{ℕ, ◌+◌, ◌-◌, ◌≤◌, ◌<◌}
 use mathlib.Core.Path.{◌≡◌, sym, ◌∙◌}
-use Rattle.edit.proofs.entry.is_less_sum.Statement.{statement}
-use Rattle.edit.proofs.entry.is_less_sum.Tie as tie
-use Rattle.edit.proofs.entry.is_less_sum.Reads as reads
-use Rattle.edit.proofs.entry.is_less_sum.Lts as lts
+use Rattle.edit.proofs.entry.is_less_sum.Goals as goal
 
 less-sum : (len a b : ℕ) → b ≤ len → ltb (len - b) a ≡ ltb len (a + b)
 less-sum len a b l = go (dec_lt (len - b) a)
@@ -17,15 +14,10 @@ less-sum len a b l = go (dec_lt (len - b) a)
     go (yes k) = lt-ltb (len - b) a k ∙ sym (lt-ltb len (a + b) (omega arith))
     go (no k) = le-ltb (len - b) a (omega arith) ∙ sym (le-ltb len (a + b) (omega arith))
 
-returns : tie.Need-returns
+pub returns-then-len-b : goal.returns-then-len-b
+returns-then-len-b c =
+    sym (lt-ltb c.args.len (c.args.a + c.args.b) (omega (arith, c.if-len-b.true)))
+
+pub returns : goal.returns
 returns c =
-    let at-start = c.before in
-    sym (lt-ltb at-start.args.len (at-start.args.a + at-start.args.b) (omega (arith, c.if1.true)))
-
-returns-2 : tie.Need-returns-2
-returns-2 c =
-    let at-start = c.before in
-    less-sum at-start.args.len at-start.args.a at-start.args.b (omega (arith, c.if1.false))
-
-pub is-less-sum-spec : {M : Type 1} → statement M
-is-less-sum-spec = tie.close (tie.spec returns returns-2)
+    less-sum c.args.len c.args.a c.args.b (omega (arith, c.if-len-b.false))
