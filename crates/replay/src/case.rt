@@ -17,7 +17,7 @@ pub const LENT: usize = 72;
 pub const LENT_ENTRIES: usize = 4168;
 
 // The size and the entries of a case, and the place after its rows. All are 0 where it is over a limit.
-#[derive(Drop)]
+#[derive(Clone, Copy)]
 pub struct Pattern {
     pub is_small: bool,
     pub size: u32,
@@ -26,7 +26,7 @@ pub struct Pattern {
 }
 
 // The stored numbers of a case, and the place after them, where its lists begin. They count only where it is within the limits.
-#[derive(Drop)]
+#[derive(Clone, Copy)]
 pub struct Case {
     pub is_small: bool,
     pub size: u32,

@@ -16,7 +16,7 @@ use sparse::checks::or;
 const MAX_REPLACEMENT: u32 = 64;
 
 // The edited column, how many rows take the place of its own, where they begin, and where the old matching does.
-#[derive(Drop)]
+#[derive(Clone, Copy)]
 pub struct Change {
     pub column: u32,
     pub count: u32,

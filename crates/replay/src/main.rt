@@ -1,7 +1,8 @@
 // Replays stored cases: each calls a function of the library, and its answer and every lent buffer are compared with what is stored.
 #![tactic(auto)]
 
-ghost use Rattle.std.specs.Prelude.{◌≤◌, length};
+ghost use Rattle.std.specs.Prelude.{◌≤◌, length, IfOk};
+ghost use Rattle.io.specs.Counts.{IsPrefixLen};
 
 mod case;
 mod column;
@@ -11,7 +12,8 @@ mod lists;
 mod order;
 mod text;
 
-use libc::{STDIN_FILENO, STDOUT_FILENO};
+use std::io;
+use std::io::{Input, Print, Read};
 use text::read_numbers;
 
 const MAX_TEXT: usize = 163840;
@@ -23,7 +25,7 @@ const TEXT_ROOM: usize = 163841;
 const NUMBERS_ROOM: usize = 65537;
 
 // What became of a case, and how many numbers it has after its kind.
-#[derive(Drop)]
+#[derive(Clone, Copy)]
 pub struct Replayed {
     pub is_formed: bool,
     pub agrees: bool,
@@ -67,41 +69,31 @@ fn replay_case(kind: u32, numbers: &[u32]) -> Replayed
     }
 }
 
-fn say_malformed(case: u64) {
-    io::write_all(STDOUT_FILENO, b"replay: malformed at case ");
-    io::print_decimal(STDOUT_FILENO, case);
-    io::write_all(STDOUT_FILENO, b"\n");
+fn say_malformed<R: Print>(rt: &R, case: u64) -> io::Result<()> {
+    println!(rt; "replay: malformed at case {case}")
 }
 
-fn say_differs(case: u64, kind: u32) {
-    io::write_all(STDOUT_FILENO, b"case ");
-    io::print_decimal(STDOUT_FILENO, case);
-    io::write_all(STDOUT_FILENO, b" (kind ");
-    io::print_decimal(STDOUT_FILENO, kind as u64);
-    io::write_all(STDOUT_FILENO, b") differs\n");
+fn say_differs<R: Print>(rt: &R, case: u64, kind: u32) -> io::Result<()> {
+    println!(rt; "case {case} (kind {kind}) differs")
 }
 
-fn say_agreed(agreed: u64, cases: u64) {
-    io::write_all(STDOUT_FILENO, b"replay: ");
-    io::print_decimal(STDOUT_FILENO, agreed);
-    io::write_all(STDOUT_FILENO, b" of ");
-    io::print_decimal(STDOUT_FILENO, cases);
-    io::write_all(STDOUT_FILENO, b" cases agree\n");
+fn say_agreed<R: Print>(rt: &R, agreed: u64, cases: u64) -> io::Result<()> {
+    println!(rt; "replay: {agreed} of {cases} cases agree")
 }
 
 // 1 for a case that agrees. A case that differs is named.
-fn counted(agrees: bool, case: u64, kind: u32) -> u64
-    ensures { result ≤ 1 }
+fn counted<R: Print>(rt: &R, agrees: bool, case: u64, kind: u32) -> io::Result<u64>
+    ensures { IfOk result (λ n. n ≤ 1) }
 {
     if agrees {
-        return 1;
+        return Ok(1);
     }
-    say_differs(case, kind);
-    0
+    say_differs(rt, case, kind)?;
+    Ok(0)
 }
 
 // All cases, up to the first that is malformed. Where the numbers are not the whole text, the case after them is.
-fn replay_all(numbers: &[u32], whole: bool) {
+fn replay_all<R: Print>(rt: &R, numbers: &[u32], whole: bool) -> io::Result<()> {
     let mut at: usize = 0;
     let mut cases = 0u64;
     let mut agreed = 0u64;
@@ -111,28 +103,41 @@ fn replay_all(numbers: &[u32], whole: bool) {
         at += 1;
         let case = replay_case(kind, &numbers[at..]);
         if !case.is_formed {
-            say_malformed(cases);
-            return;
+            return say_malformed(rt, cases);
         }
-        agreed += counted(case.agrees, cases, kind);
+        agreed += counted(rt, case.agrees, cases, kind)?;
         at += case.length;
     }
     if !whole {
-        say_malformed(cases + 1);
-        return;
+        return say_malformed(rt, cases + 1);
     }
-    say_agreed(agreed, cases);
+    say_agreed(rt, agreed, cases)
 }
 
-fn main() {
+// Reads until the buffer is full or the reader ends, and says how many bytes stand at the buffer's start.
+fn read_full<R: Read>(reader: &mut R, buf: &mut [u8]) -> io::Result<usize>
+    ensures { IfOk result (λ n. IsPrefixLen n buf.new) }
+{
+    let mut done: usize = 0;
+    while done < buf.len() {
+        let n = reader.read(&mut buf[done..])?;
+        if n == 0 {
+            break;
+        }
+        done += n;
+    }
+    Ok(done)
+}
+
+fn main(rt: HostRuntime) -> io::Result<()> {
     let mut text = [0u8; TEXT_ROOM];
-    let length = io::read_full(STDIN_FILENO, &mut text);
+    let mut input = rt.reader();
+    let length = read_full(&mut input, &mut text)?;
     if MAX_TEXT < length {
-        say_malformed(1);
-        return;
+        return say_malformed(&rt, 1);
     }
     let mut numbers = [0u32; NUMBERS_ROOM];
     let found = read_numbers(&text[..length], &mut numbers);
     let count = found.count;
-    replay_all(&numbers[..count], found.whole);
+    replay_all(&rt, &numbers[..count], found.whole)
 }

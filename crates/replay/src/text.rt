@@ -7,7 +7,7 @@ ghost use Rattle.replay.specs.Text.{digit_of, skipped, spelled, number_at, store
 const MAX_NUMBER: u64 = 4294967295;
 
 // What stands next in a text.
-#[derive(Drop)]
+#[derive(Clone, Copy)]
 pub enum Next {
     // A number, and the place after its last digit.
     Number(u32, usize),
@@ -17,7 +17,7 @@ pub enum Next {
 }
 
 // How many numbers of a text were stored, and whether these are all of them.
-#[derive(Drop)]
+#[derive(Clone, Copy)]
 pub struct Numbers {
     pub count: usize,
     pub whole: bool,
