@@ -1,5 +1,5 @@
 -- The searches of all columns, one after the other, follow the rule: what holds between two, and how they end.
-use Prim.Native.Nat.{ℕ, zero, suc, ◌+◌, ◌-◌, ◌<◌, ◌≤◌}
+use Prim.Native.Nat.{ℕ, suc, ◌+◌, ◌-◌, ◌<◌, ◌≤◌}
 use mathlib.Core.Path.{◌≡◌, refl, sym, ap, ◌∙◌, subst, fun_ext}
 use mathlib.Core.Bool.{Bool, true, false}
 use mathlib.Core.List.Memᴰ
@@ -9,20 +9,20 @@ use native.Mathlib.Decide.{ℕ_discrete}
 use native.Mathlib.Omega.{arith}
 use borrow.Author.Tests.{eq-eqb, ne_eqb}
 use lib.Dec.{eqb}
-use lib.ListN.{length, get_or, set, take, drop, replicate, get_or-replicate}
-use lib.Seq.{drop-set-lt, get_or-take}
+use lib.ListN.{length, get_or, take, drop}
+use lib.Seq.{drop-set-lt}
 use Rattle.graph.specs.Lists.{Mem, elem}
-use Rattle.graph.specs.Matchings.{Row, Col, Pattern, Inside, partner}
+use Rattle.graph.specs.Matchings.{Row, Col, Pattern, Inside}
 use Rattle.graph.specs.Paths.{Ending, failed, found, augment}
 use Rattle.graph.proofs.Edits.{edited_same, edited_other}
 use Rattle.graph.proofs.Lists.{elem_mem, not_elem}
 use Rattle.graph.proofs.Search.{AllBelow}
-use Rattle.sparse.specs.Limits.{none, max_size, max_entries}
+use Rattle.sparse.specs.Limits.{none, max_entries}
 use Rattle.sparse.specs.Matrix.{column, column_or, Shaped, RowsBelow}
 use Rattle.sparse.proofs.Matrix.{column_beyond}
-use Rattle.matching.specs.Matching.{search, Verdict, accepted, refused, match_from, matching}
+use Rattle.matching.specs.Matching.{search, accepted, refused, match_from, matching}
 use Rattle.matching.specs.Parts.{Fresh, EndsAt, SameBeyond}
-use Rattle.matching.specs.Search.{Unstamped, stamped, Cheap, is_found, moved, SearchReady, SearchEnds}
+use Rattle.matching.specs.Search.{stamped, Cheap, is_found, moved, SearchReady, SearchEnds}
 use Rattle.matching.proofs.Front.{agree_take, search_agree, take-moved, drop-moved}
 use Rattle.matching.proofs.Matching.{match_found, match_failed}
 use Rattle.matching.proofs.Ready.{inside-or, short-or}

@@ -1,13 +1,10 @@
 -- A search reads and moves only the first n numbers of a matching, so a longer slice serves as well as a list of n.
-use Prim.Native.Nat.{ℕ, zero, suc, ◌<◌, ◌≤◌}
+use Prim.Native.Nat.{ℕ, zero, suc, ◌<◌}
 use mathlib.Core.Path.{◌≡◌, refl, sym, ap, ◌∙◌, fun_ext}
-use mathlib.Core.Logic.{⊎_elim}
 use mathlib.Core.Bool.{Bool, true, false}
 use mathlib.Core.List.Memᴰ
 use mathlib.Core.List.{List, [], ◌∷◌}
-use native.Mathlib.Omega.{arith}
-use lib.Dec.{leb}
-use lib.ListN.{length, get_or, set, take, drop}
+use lib.ListN.{set, take, drop}
 use lib.Seq.{take-set-lt, drop-set-lt, get_or-take}
 use Rattle.graph.specs.Lists.{Mem, elem, keep}
 use Rattle.graph.specs.Matchings.{Row, Col, Pattern, Inside, partner}

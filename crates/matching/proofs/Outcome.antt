@@ -2,21 +2,21 @@
 use Prim.Native.Nat.{ℕ, ◌+◌, ◌<◌, ◌≤◌}
 use mathlib.Core.Path.{◌≡◌, refl, sym, ap, ◌∙◌}
 use mathlib.Core.Bool.{Bool, true, false, ◌||◌}
-use mathlib.Core.List.{List, [], ◌∷◌, ◌++◌}
+use mathlib.Core.List.{List, ◌++◌}
 use mathlib.Core.Logic.{◌⊎◌, inl, inr}
 use native.Mathlib.Omega.{arith}
 use lib.Dec.{eqb, ltb}
 use lib.ListN.{length, get_or, take, drop, replicate, length-replicate}
 use lib.Seq.{drop_at, take_at}
 use Rattle.graph.specs.Counting.{bit}
-use Rattle.graph.specs.Lists.{Mem, elem, table}
-use Rattle.graph.specs.Matchings.{Row, Col, Pattern, Inside, Perfect, partner}
+use Rattle.graph.specs.Lists.{elem, table}
+use Rattle.graph.specs.Matchings.{Row, Col, Pattern, partner}
 use Rattle.graph.proofs.Hall.{hall_set_agree}
 use Rattle.graph.proofs.Lists.{mem_elem, length-table, get_or-table, table_ext}
 use Rattle.graph.proofs.Matchings.{perfect_agree}
 use Rattle.sparse.specs.Buffers.{zeroed, filled}
 use Rattle.sparse.specs.Limits.{none, max_size}
-use Rattle.sparse.specs.Matrix.{column, Shaped, RowsBelow}
+use Rattle.sparse.specs.Matrix.{column}
 use Rattle.sparse.specs.Parts.{ZeroBelow}
 use Rattle.sparse.specs.Refusals.{first_refusal, early, one_short, Roomy, repeated_row}
 use Rattle.sparse.specs.declared.Checked.{Checked}
@@ -28,7 +28,7 @@ use Rattle.sparse.proofs.Matrix.{inside, column_once}
 use Rattle.sparse.proofs.Passing.{repeats_pass}
 use Rattle.sparse.proofs.Room.{short_more, short_last}
 use Rattle.matching.specs.Matching.{Verdict, accepted, refused, matching}
-use Rattle.matching.specs.Outcome.{Lent, lent, matching_need, buffers, cleared, Outcome, ended, number_of, place_of, unmatchable}
+use Rattle.matching.specs.Outcome.{Lent, lent, matching_need, buffers, cleared, Outcome, ended, unmatchable}
 use Rattle.matching.specs.Outcome.{marks_of}
 use Rattle.matching.specs.Outcome.{handed_out, outcome, Given, HallMarks, Means}
 use Rattle.matching.specs.Parts.{Fresh, EndsAt, SameBeyond}

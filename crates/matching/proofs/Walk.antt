@@ -13,7 +13,7 @@ use Rattle.graph.proofs.Lists.{once_left, once_room}
 use Rattle.graph.proofs.Paths.{unwind}
 use Rattle.graph.proofs.Search.{NoneFree, AllBelow}
 use Rattle.matching.specs.Search.{Unstamped, stamped, Cheap}
-use Rattle.matching.proofs.Stamps.{stamped_in, stamped_is, unstamped, Kept}
+use Rattle.matching.proofs.Stamps.{stamped_in, stamped_is, Kept}
 use Rattle.matching.proofs.Stack.{Goal, Ret, Top, Into}
 
 -- ---- what the slices hold

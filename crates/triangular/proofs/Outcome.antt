@@ -1,11 +1,11 @@
 -- Each exit of `find_block_diag_form`: what it returns and leaves is the outcome, and has the meaning.
-use Prim.Native.Nat.{ℕ, ◌+◌, ◌<◌, ◌≤◌}
+use Prim.Native.Nat.{ℕ, ◌<◌, ◌≤◌}
 use mathlib.Core.Path.{◌≡◌, refl, sym, ap, ◌∙◌, fun_ext}
 use mathlib.Core.List.Memᴰ
-use mathlib.Core.List.{List, [], ◌∷◌, ◌++◌, map, flatten}
+use mathlib.Core.List.{List, [], ◌∷◌, map}
 use mathlib.Core.Logic.{◌↔◌}
 use native.Mathlib.Omega.{arith}
-use lib.ListN.{length, get_or, drop}
+use lib.ListN.{length, get_or}
 use Rattle.graph.specs.Lists.{Mem}
 use Rattle.graph.specs.Matchings.{Row, Col, Pattern, Inside, Perfect, Points, partner}
 use Rattle.graph.specs.Blocks.{targets, blocks}
@@ -23,7 +23,7 @@ use Rattle.sparse.proofs.Buffers.{filled_at}
 use Rattle.sparse.proofs.Early.{Early, early_passed, early_passes, early_number, repeats_number}
 use Rattle.sparse.proofs.Matrix.{inside, column_once}
 use Rattle.sparse.proofs.Passing.{repeats_pass}
-use Rattle.matching.specs.Matching.{Verdict, accepted, refused, matching, Matchable}
+use Rattle.matching.specs.Matching.{Verdict, accepted, refused, matching}
 use Rattle.matching.specs.Outcome as m
 use Rattle.matching.specs.declared.diagonal.MatchingAnswer.{MatchingAnswer}
 use Rattle.matching.specs.declared.diagonal.MatchingAnswer.TheVariants as matched
@@ -31,7 +31,7 @@ use Rattle.matching.proofs.Matching.{Decides, matching_decides}
 use Rattle.matching.proofs.Outcome.{hall_marks}
 use Rattle.blocks.specs.Form.{columns_of, block_starts, StoredForm}
 use Rattle.triangular.specs.Outcome.{Work, Outputs, outputs, Lent, lent, buffers, cleared, form_need, starts_need, Outcome, ended}
-use Rattle.triangular.specs.Outcome.{number_of, place_of, passed_on, unmatchable, handed_out, formed, outcome, Given, Means}
+use Rattle.triangular.specs.Outcome.{passed_on, handed_out, formed, outcome, Given, Means}
 use Rattle.blocks.specs.Cut.{HoldsBlocks}
 use Rattle.triangular.specs.declared.form.BlockAnswer.{BlockAnswer}
 use Rattle.triangular.specs.declared.form.BlockAnswer.TheVariants.{Accepted, Refused}

@@ -1,11 +1,11 @@
 -- The blocks under a matching, step by step: what each part leaves is what the next needs, and at the end the rule's blocks are
 -- there.
 use Prim.Native.Nat.{ℕ, ◌+◌, ◌≤◌, ◌<◌}
-use mathlib.Core.Path.{◌≡◌, refl, sym, ap, ◌∙◌, subst}
+use mathlib.Core.Path.{◌≡◌, sym, ap, ◌∙◌, subst}
 use mathlib.Core.List.{List, [], ◌++◌, flatten}
 use native.Mathlib.Omega.{arith}
 use lib.ListN.{length, get_or, take, drop}
-use Rattle.graph.specs.Matchings.{Row, Col, Pattern}
+use Rattle.graph.specs.Matchings.{Pattern}
 use Rattle.graph.specs.Permutations.{Permutes, Inverse, inverse}
 use Rattle.graph.specs.Blocks.{targets, blocks, cut}
 use Rattle.graph.proofs.Blocks.{blocks-length}
@@ -14,16 +14,14 @@ use Rattle.graph.proofs.Permutations.{length-inverse, inverse-inverse}
 use Rattle.sparse.specs.Buffers.{zeroed, filled}
 use Rattle.sparse.specs.Limits.{max_size, max_entries}
 use Rattle.sparse.specs.Matrix.{column, Shaped}
-use Rattle.sparse.specs.Parts.{ZeroBelow}
-use Rattle.sparse.specs.Refusals.{Roomy}
 use Rattle.sparse.proofs.Buffers.{zero_below, drop-zeroed, drop-filled, filled_at}
 use Rattle.blocks.specs.Walk.{last_first, SameFrom}
 use Rattle.blocks.specs.Reverse.{entries, Reversible, ReverseRoom, Reversed}
-use Rattle.blocks.specs.Cut.{first_pass, second_pass, PassReady, Finished, CutReady, HoldsBlocks}
-use Rattle.triangular.specs.Outcome.{Work, work, form_need, starts_need, entries_need, work_buffers, cleared}
+use Rattle.blocks.specs.Cut.{first_pass, second_pass, PassReady, Finished, HoldsBlocks}
+use Rattle.triangular.specs.Outcome.{Work, work, starts_need, entries_need, cleared}
 use Rattle.triangular.specs.Parts.{SameWork}
 use Rattle.blocks.proofs.Backward.{back_shaped}
-use Rattle.blocks.proofs.Joined.{targets-within, finished_ready, finished_unwalked, back_pattern, cut_is_blocks}
+use Rattle.blocks.proofs.Joined.{targets-within, finished_unwalked, back_pattern, cut_is_blocks}
 
 -- ---- before the first pass
 

@@ -1,6 +1,6 @@
 -- The block form of a valid matrix: what the matching hands on lets the blocks be cut, and both ends hand out the verdict.
 use Prim.Native.Nat.{ℕ, ◌≤◌, ◌<◌}
-use mathlib.Core.Path.{◌≡◌, refl, sym, ap, ◌∙◌, subst}
+use mathlib.Core.Path.{◌≡◌, refl, sym, ◌∙◌, subst}
 use mathlib.Core.List.{List, []}
 use native.Mathlib.Decide.{dec_lt}
 use native.Mathlib.Omega.{arith}
@@ -27,7 +27,7 @@ use Rattle.triangular.specs.Outcome.{handed_out, formed, outcome, ended, Given, 
 use Rattle.triangular.specs.Parts.{SameWork}
 use Rattle.blocks.specs.Reverse.{entries, Reversible}
 use Rattle.triangular.specs.declared.form.BlockAnswer.{BlockAnswer}
-use Rattle.triangular.specs.declared.form.BlockAnswer.TheVariants.{Accepted, Refused}
+use Rattle.triangular.specs.declared.form.BlockAnswer.TheVariants.{Accepted}
 use Rattle.blocks.proofs.Entries.{entries_plain}
 use Rattle.triangular.proofs.Outcome.{Handed, handed_agree, hand_accepted, decides, formed-outcome, outcome_means}
 use Rattle.triangular.proofs.UnderMatching.{same_cleared}

@@ -27,10 +27,10 @@ pub walk_new-end-requires : goal.walk_new-end-requires
 walk_new-end-requires c =
     let low : c.column_at-c.result.0 < c.args.size = subst (λ (x : ℕ). x < c.args.size) (sym c.column_at-c.ensures)
     (seconds_column c.loop-i.invariant (c.loop-i.i - 1) (omega (arith, c.loop-i-test.true))) in record {
-  shaped = c.requires.shaped;
-  start_lt_size = (pass_ready c.loop-i.invariant.pass c.column_at-c.result.0 low).0;
-  walk_ready = (pass_ready c.loop-i.invariant.pass c.column_at-c.result.0 low).1;
-}
+      shaped = c.requires.shaped;
+      start_lt_size = (pass_ready c.loop-i.invariant.pass c.column_at-c.result.0 low).0;
+      walk_ready = (pass_ready c.loop-i.invariant.pass c.column_at-c.result.0 low).1;
+    }
 
 pub end_block-blocks-requires : goal.end_block-blocks-requires
 end_block-blocks-requires c =
@@ -42,14 +42,14 @@ end_block-blocks-requires c =
     c.loop-i.scratch c.walk_new-end.new.visited c.walk_new-end.new.scol c.walk_new-end.new.sat
     c.walk_new-end.new.entered c.walk_new-end.new.finished
     c.walk_new-end.result = record {
-  ends = c.walk_new-end.ensures.walk_ends;
-  same = c.walk_new-end.ensures.same_from;
-  stamps_length = omega (arith, c.walk_new-end.auto);
-  cols_length = omega (arith, c.walk_new-end.auto);
-  places_length = omega (arith, c.walk_new-end.auto);
-  entered_length = omega (arith, c.walk_new-end.auto);
-  finished_length = omega (arith, c.walk_new-end.auto);
-} in
+      ends = c.walk_new-end.ensures.walk_ends;
+      same = c.walk_new-end.ensures.same_from;
+      stamps_length = omega (arith, c.walk_new-end.auto);
+      cols_length = omega (arith, c.walk_new-end.auto);
+      places_length = omega (arith, c.walk_new-end.auto);
+      entered_length = omega (arith, c.walk_new-end.auto);
+      finished_length = omega (arith, c.walk_new-end.auto);
+    } in
     seconds_room c.loop-i.invariant c.requires.shaped.small low made
 
 pub loop-i-preserved : goal.loop-i-preserved
@@ -60,14 +60,14 @@ loop-i-preserved c =
     c.loop-i.scratch c.walk_new-end.new.visited c.walk_new-end.new.scol c.walk_new-end.new.sat
     c.walk_new-end.new.entered c.walk_new-end.new.finished
     c.walk_new-end.result = record {
-  ends = c.walk_new-end.ensures.walk_ends;
-  same = c.walk_new-end.ensures.same_from;
-  stamps_length = omega (arith, c.walk_new-end.auto);
-  cols_length = omega (arith, c.walk_new-end.auto);
-  places_length = omega (arith, c.walk_new-end.auto);
-  entered_length = omega (arith, c.walk_new-end.auto);
-  finished_length = omega (arith, c.walk_new-end.auto);
-} in
+      ends = c.walk_new-end.ensures.walk_ends;
+      same = c.walk_new-end.ensures.same_from;
+      stamps_length = omega (arith, c.walk_new-end.auto);
+      cols_length = omega (arith, c.walk_new-end.auto);
+      places_length = omega (arith, c.walk_new-end.auto);
+      entered_length = omega (arith, c.walk_new-end.auto);
+      finished_length = omega (arith, c.walk_new-end.auto);
+    } in
     seconds_more (c.loop-i.i - 1) c.loop-i.invariant (omega (arith, c.loop-i-test.true))
     c.column_at-c.ensures made c.end_block-blocks.ensures
     (omega (arith, c.end_block-blocks.auto))
@@ -99,7 +99,7 @@ shape_of-blockstarts c =
 pub returns : goal.returns
 returns c =
     record {
-  holds_blocks = holds_unedited c.args.row2col.now c.args.finished.now c.requires.shaped
+      holds_blocks = holds_unedited c.args.row2col.now c.args.finished.now c.requires.shaped
           (seconds_end c.loop-i.invariant (omega (arith, c.loop-i-test.false)) c.clear.ensures);
-  same_from = pass_same c.loop-i.invariant.pass;
-}
+      same_from = pass_same c.loop-i.invariant.pass;
+    }

@@ -20,14 +20,14 @@ loop-c-preserved c =
     let made : Turn c.args.size (column_or c.args.starts.now c.args.rows.now c.args.edited.0
     c.args.replacement.now) c.args.row2col.now c.loop-c.c first_pass c.loop-c.count c.loop-c.visited c.loop-c.scol c.loop-c.sat c.loop-c.entered c.loop-c.finished
     c.walk_new-count.new.visited c.walk_new-count.new.scol c.walk_new-count.new.sat c.walk_new-count.new.entered c.walk_new-count.new.finished c.walk_new-count.result = record {
-  ends = c.walk_new-count.ensures.walk_ends;
-  same = c.walk_new-count.ensures.same_from;
-  stamps_length = omega (arith, c.walk_new-count.auto);
-  cols_length = omega (arith, c.walk_new-count.auto);
-  places_length = omega (arith, c.walk_new-count.auto);
-  entered_length = omega (arith, c.walk_new-count.auto);
-  finished_length = omega (arith, c.walk_new-count.auto);
-} in
+      ends = c.walk_new-count.ensures.walk_ends;
+      same = c.walk_new-count.ensures.same_from;
+      stamps_length = omega (arith, c.walk_new-count.auto);
+      cols_length = omega (arith, c.walk_new-count.auto);
+      places_length = omega (arith, c.walk_new-count.auto);
+      entered_length = omega (arith, c.walk_new-count.auto);
+      finished_length = omega (arith, c.walk_new-count.auto);
+    } in
     firsts_more c.loop-c.invariant c.loop-c-test.true made
 
 pub shape_of-visited : goal.shape_of-visited

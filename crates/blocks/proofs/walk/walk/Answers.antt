@@ -74,10 +74,10 @@ advance-depth-requires c =
     let R = scan_ready (arm_enter c.loop-depth.invariant c.loop-depth-test.true hand fresh
     c.put_by_column.ensures c.put_column-then-by_column-mark.ensures) hand
     c.requires.shaped.small few in record {
-  col_len_bound = R.short;
-  by_index = R.cols;
-  top_lt_max_size = R.room;
-}
+      col_len_bound = R.short;
+      by_index = R.cols;
+      top_lt_max_size = R.room;
+    }
 
 pub leave-f-requires : goal.leave-f-requires
 leave-f-requires c =
@@ -136,10 +136,10 @@ advance-depth-requires-else-by_column-mark c =
     let marked : get_or c.loop-depth.visited c.column_at-c.result.0 0 ≡ c.args.mark = sym c.by_column.ensures ∙ c.if-by_column-mark.false in
     let few : length c.col_rows-col.result.now ≤ max_entries = rw c.col_rows-col.ensures (c.requires.walk_ready.short c.column_at-c.result.0) in
     let R = scan_ready (arm_again {from = c.get-next.result + 1} c.loop-depth.invariant c.loop-depth-test.true hand marked (omega (arith, c.get-next.ensures))) hand c.requires.shaped.small few in record {
-  col_len_bound = R.short;
-  by_index = R.cols;
-  top_lt_max_size = R.room;
-}
+      col_len_bound = R.short;
+      by_index = R.cols;
+      top_lt_max_size = R.room;
+    }
 
 pub leave-f-requires-else-by_column-mark : goal.leave-f-requires-else-by_column-mark
 leave-f-requires-else-by_column-mark c =

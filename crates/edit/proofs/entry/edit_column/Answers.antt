@@ -21,11 +21,11 @@ returns-in-Refused c =
     let e = early-outcome c.args.size c.args.starts.now c.args.rows.now c.args.edited.0 c.args.replacement.now (lent (work c.args.visited.now c.args.cheap.now c.args.finished.now c.args.col2row.now c.args.backstarts.now
     c.args.backrows.now c.args.scol.now c.args.sat.now)
     (outputs c.args.row2col.now c.args.hall.now c.args.blockcols.now c.args.blockstarts.now)) _ (sym found ∙ c.in-Refused.is) in record {
-  outcome = e;
-  meaning = outcome_means c.args.size c.args.starts.now c.args.rows.now c.args.edited.0 c.args.replacement.now (lent (work c.args.visited.now c.args.cheap.now c.args.finished.now c.args.col2row.now c.args.backstarts.now
-    c.args.backrows.now c.args.scol.now c.args.sat.now)
-    (outputs c.args.row2col.now c.args.hall.now c.args.blockcols.now c.args.blockstarts.now)) _ _ e;
-}
+      outcome = e;
+      meaning = outcome_means c.args.size c.args.starts.now c.args.rows.now c.args.edited.0 c.args.replacement.now (lent (work c.args.visited.now c.args.cheap.now c.args.finished.now c.args.col2row.now c.args.backstarts.now
+          c.args.backrows.now c.args.scol.now c.args.sat.now)
+          (outputs c.args.row2col.now c.args.hall.now c.args.blockcols.now c.args.blockstarts.now)) _ _ e;
+    }
 
 pub edit_tested-answer-requires : goal.edit_tested-answer-requires
 edit_tested-answer-requires c =
@@ -44,9 +44,9 @@ edit_tested-answer-requires c =
     c.args.backrows.now c.args.scol.now c.args.sat.now)
     (outputs c.args.row2col.now c.args.hall.now c.args.blockcols.now c.args.blockstarts.now)))
     none_refused in record {
-  shaped = (passed.shaped, passed.below);
-  roomy = passed.room;
-}
+      shaped = (passed.shaped, passed.below);
+      roomy = passed.room;
+    }
 
 pub overflow_cast-rows : goal.overflow_cast-rows
 overflow_cast-rows c =
@@ -103,20 +103,20 @@ clear_work-requires c =
     c.args.backrows.now c.args.scol.now c.args.sat.now)
     (outputs c.args.row2col.now c.args.hall.now c.args.blockcols.now c.args.blockstarts.now)))
     none_refused in record {
-  size_le_max_size = passed.shaped.small;
-  roomy = work_kept c.args.size (edit_entries c.args.size c.args.rows.now) (lent (work c.args.visited.now c.args.cheap.now c.args.finished.now c.args.col2row.now c.args.backstarts.now
-    c.args.backrows.now c.args.scol.now c.args.sat.now)
-    (outputs c.args.row2col.now c.args.hall.now c.args.blockcols.now c.args.blockstarts.now)).inner (work c.edit_tested-answer.new.visited
+      size_le_max_size = passed.shaped.small;
+      roomy = work_kept c.args.size (edit_entries c.args.size c.args.rows.now) (lent (work c.args.visited.now c.args.cheap.now c.args.finished.now c.args.col2row.now c.args.backstarts.now
+          c.args.backrows.now c.args.scol.now c.args.sat.now)
+          (outputs c.args.row2col.now c.args.hall.now c.args.blockcols.now c.args.blockstarts.now)).inner (work c.edit_tested-answer.new.visited
           c.edit_tested-answer.new.cheap c.edit_tested-answer.new.finished c.edit_tested-answer.new.col2row c.edit_tested-answer.new.backstarts
           c.edit_tested-answer.new.backrows c.edit_tested-answer.new.scol c.edit_tested-answer.new.sat)
           c.edit_tested-answer.auto.visited c.edit_tested-answer.auto.cheap c.edit_tested-answer.auto.finished c.edit_tested-answer.auto.col2row
           c.edit_tested-answer.auto.backstarts c.edit_tested-answer.auto.backrows c.edit_tested-answer.auto.scol c.edit_tested-answer.auto.sat
           (roomy_split (work_buffers c.args.size (edit_entries c.args.size c.args.rows.now) (lent (work c.args.visited.now c.args.cheap.now c.args.finished.now c.args.col2row.now c.args.backstarts.now
-    c.args.backrows.now c.args.scol.now c.args.sat.now)
-    (outputs c.args.row2col.now c.args.hall.now c.args.blockcols.now c.args.blockstarts.now)).inner) (output_buffers c.args.size (lent (work c.args.visited.now c.args.cheap.now c.args.finished.now c.args.col2row.now c.args.backstarts.now
-    c.args.backrows.now c.args.scol.now c.args.sat.now)
-    (outputs c.args.row2col.now c.args.hall.now c.args.blockcols.now c.args.blockstarts.now)).outer) passed.room).0;
-}
+          c.args.backrows.now c.args.scol.now c.args.sat.now)
+          (outputs c.args.row2col.now c.args.hall.now c.args.blockcols.now c.args.blockstarts.now)).inner) (output_buffers c.args.size (lent (work c.args.visited.now c.args.cheap.now c.args.finished.now c.args.col2row.now c.args.backstarts.now
+          c.args.backrows.now c.args.scol.now c.args.sat.now)
+          (outputs c.args.row2col.now c.args.hall.now c.args.blockcols.now c.args.blockstarts.now)).outer) passed.room).0;
+    }
 
 pub shape_of-visited : goal.shape_of-visited
 shape_of-visited c =
@@ -177,6 +177,6 @@ returns c =
     let none_refused : (first_refusal (early c.args.size c.args.starts.now c.args.rows.now (buffers c.args.size (edit_entries c.args.size c.args.rows.now) (lent (work c.args.visited.now c.args.cheap.now c.args.finished.now c.args.col2row.now c.args.backstarts.now
     c.args.backrows.now c.args.scol.now c.args.sat.now)
     (outputs c.args.row2col.now c.args.hall.now c.args.blockcols.now c.args.blockstarts.now))))) ≡ checked.Passed = sym found ∙ c.in_default.is in record {
-  outcome = (tested_exit c.args.size c.args.starts.now c.args.rows.now c.args.edited.0 c.args.replacement.now (lent (work c.args.visited.now c.args.cheap.now c.args.finished.now c.args.col2row.now c.args.backstarts.now c.args.backrows.now c.args.scol.now c.args.sat.now) (outputs c.args.row2col.now c.args.hall.now c.args.blockcols.now c.args.blockstarts.now)) (work _ _ _ _ _ _ _ _) (outputs _ _ _ _) _ none_refused (c.clear_work.ensures ∙ c.edit_tested-answer.ensures.sat_unchanged) c.edit_tested-answer.ensures.blockstarts_after).0;
-  meaning = (tested_exit c.args.size c.args.starts.now c.args.rows.now c.args.edited.0 c.args.replacement.now (lent (work c.args.visited.now c.args.cheap.now c.args.finished.now c.args.col2row.now c.args.backstarts.now c.args.backrows.now c.args.scol.now c.args.sat.now) (outputs c.args.row2col.now c.args.hall.now c.args.blockcols.now c.args.blockstarts.now)) (work _ _ _ _ _ _ _ _) (outputs _ _ _ _) _ none_refused (c.clear_work.ensures ∙ c.edit_tested-answer.ensures.sat_unchanged) c.edit_tested-answer.ensures.blockstarts_after).1;
-}
+      outcome = (tested_exit c.args.size c.args.starts.now c.args.rows.now c.args.edited.0 c.args.replacement.now (lent (work c.args.visited.now c.args.cheap.now c.args.finished.now c.args.col2row.now c.args.backstarts.now c.args.backrows.now c.args.scol.now c.args.sat.now) (outputs c.args.row2col.now c.args.hall.now c.args.blockcols.now c.args.blockstarts.now)) (work _ _ _ _ _ _ _ _) (outputs _ _ _ _) _ none_refused (c.clear_work.ensures ∙ c.edit_tested-answer.ensures.sat_unchanged) c.edit_tested-answer.ensures.blockstarts_after).0;
+      meaning = (tested_exit c.args.size c.args.starts.now c.args.rows.now c.args.edited.0 c.args.replacement.now (lent (work c.args.visited.now c.args.cheap.now c.args.finished.now c.args.col2row.now c.args.backstarts.now c.args.backrows.now c.args.scol.now c.args.sat.now) (outputs c.args.row2col.now c.args.hall.now c.args.blockcols.now c.args.blockstarts.now)) (work _ _ _ _ _ _ _ _) (outputs _ _ _ _) _ none_refused (c.clear_work.ensures ∙ c.edit_tested-answer.ensures.sat_unchanged) c.edit_tested-answer.ensures.blockstarts_after).1;
+    }

@@ -22,10 +22,10 @@ pub check_edit-checked-requires : goal.check_edit-checked-requires
 check_edit-checked-requires c = record {
   shaped = c.requires.shaped;
   size_in_bounds = (
-          omega (arith, c.requires.roomy.0, c.clear.auto),
-          rw c.clear.ensures
-              (zero_below c.args.size c.args.size c.args.visited.now (omega arith)),
-        );
+    omega (arith, c.requires.roomy.0, c.clear.auto),
+    rw c.clear.ensures
+        (zero_below c.args.size c.args.size c.args.visited.now (omega arith)),
+  );
   size_in_bounds_2 = (c.requires.roomy.1.1.1.1.1.1.1.1.0, c.requires.roomy.1.1.1.0);
 }
 
@@ -33,11 +33,11 @@ pub returns-in-Refused : goal.returns-in-Refused
 returns-in-Refused c = record {
   blockstarts_after = λ w. refused-replaced c.args.size c.args.starts.now c.args.rows.now c.args.edited.0 c.args.replacement.now w (outputs c.args.row2col.now c.args.hall.now c.args.blockcols.now c.args.blockstarts.now) _ (sym c.check_edit-checked.ensures.value ∙ c.in-Refused.is);
   sat_unchanged = same_cleared c.args.size (edit_entries c.args.size c.args.rows.now) (work c.args.visited.now c.args.cheap.now c.args.finished.now c.args.col2row.now c.args.backstarts.now
-    c.args.backrows.now c.args.scol.now c.args.sat.now)
-          (work _ _ _ _ _ _ _ _)
-          (tested_same c.args.size (edit_entries c.args.size c.args.rows.now) (work c.args.visited.now c.args.cheap.now c.args.finished.now c.args.col2row.now c.args.backstarts.now
-    c.args.backrows.now c.args.scol.now c.args.sat.now)
-          _ _ _ c.clear.ensures c.check_edit-checked.ensures.same_beyond.0 c.check_edit-checked.ensures.same_beyond.1);
+      c.args.backrows.now c.args.scol.now c.args.sat.now)
+      (work _ _ _ _ _ _ _ _)
+      (tested_same c.args.size (edit_entries c.args.size c.args.rows.now) (work c.args.visited.now c.args.cheap.now c.args.finished.now c.args.col2row.now c.args.backstarts.now
+      c.args.backrows.now c.args.scol.now c.args.sat.now)
+      _ _ _ c.clear.ensures c.check_edit-checked.ensures.same_beyond.0 c.check_edit-checked.ensures.same_beyond.1);
 }
 
 pub edit_valid-requires : goal.edit_valid-requires
@@ -49,7 +49,7 @@ edit_valid-requires c =
     c.args.row2col.now) = late_passed c.args.size c.args.starts.now c.args.rows.now c.args.edited.0
     c.args.replacement.now c.args.row2col.now c.requires.roomy.1.1.1.1.1.1.1.1.0
     none_refused in record {
-  given = record {
+      given = record {
         valid = record {
           shaped = c.requires.shaped.0;
           below = c.requires.shaped.1;
@@ -74,8 +74,8 @@ edit_valid-requires c =
           ),
         );
       };
-  edited_value = former_read c.args.size c.args.row2col.now _ _ c.args.edited.0 (c.check_edit-checked.ensures.col2row_after c.in_default.is) fit.1.below;
-}
+      edited_value = former_read c.args.size c.args.row2col.now _ _ c.args.edited.0 (c.check_edit-checked.ensures.col2row_after c.in_default.is) fit.1.below;
+    }
 
 pub shape_of-visited : goal.shape_of-visited
 shape_of-visited c =
@@ -89,13 +89,13 @@ pub returns : goal.returns
 returns c =
     let none_refused : first_refusal (late c.args.size c.args.starts.now c.args.rows.now c.args.edited.0 c.args.replacement.now c.args.row2col.now)
     ≡ checked.Passed = sym c.check_edit-checked.ensures.value ∙ c.in_default.is in record {
-  blockstarts_after = λ w. c.edit_valid.ensures.blockstarts_after w ∙ verdict_replaced c.args.size c.args.starts.now
+      blockstarts_after = λ w. c.edit_valid.ensures.blockstarts_after w ∙ verdict_replaced c.args.size c.args.starts.now
           c.args.rows.now c.args.edited.0 c.args.replacement.now w (outputs c.args.row2col.now c.args.hall.now c.args.blockcols.now c.args.blockstarts.now)
           none_refused;
-  sat_unchanged = c.edit_valid.ensures.sat_unchanged
+      sat_unchanged = c.edit_valid.ensures.sat_unchanged
           ∙ same_cleared c.args.size (edit_entries c.args.size c.args.rows.now) (work c.args.visited.now c.args.cheap.now c.args.finished.now c.args.col2row.now c.args.backstarts.now
-    c.args.backrows.now c.args.scol.now c.args.sat.now) (work _ _ _ _ _ _ _ _)
+          c.args.backrows.now c.args.scol.now c.args.sat.now) (work _ _ _ _ _ _ _ _)
           (tested_same c.args.size (edit_entries c.args.size c.args.rows.now) (work c.args.visited.now c.args.cheap.now c.args.finished.now c.args.col2row.now c.args.backstarts.now
-    c.args.backrows.now c.args.scol.now c.args.sat.now)
+          c.args.backrows.now c.args.scol.now c.args.sat.now)
           _ _ _ c.clear.ensures c.check_edit-checked.ensures.same_beyond.0 c.check_edit-checked.ensures.same_beyond.1);
-}
+    }

@@ -39,17 +39,17 @@ refuse_edit-requires c =
       cols_length = c.rematch-end.auto.scol;
       places_length = c.rematch-end.auto.sat;
     } in record {
-  size_le_max_size = (
+      size_le_max_size = (
         searched.given.valid.shaped.small,
         c.if-end-size.true,
         omega (arith, searched.visited_length, searched.given.room.0),
         searched.given.room.1.1.1.1.1.1.1.1.1.0,
       );
-  size_in_bounds = (
+      size_in_bounds = (
         searched.given.room.1.1.1.1.1.1.1.1.1.1.0,
         searched.given.room.1.1.1.1.1.1.1.1.1.1.1.0,
       );
-}
+    }
 
 pub shape_of-visited-then-end-size : goal.shape_of-visited-then-end-size
 shape_of-visited-then-end-size c =
@@ -101,11 +101,11 @@ returns-then-end-size c =
       cols_length = c.rematch-end.auto.scol;
       places_length = c.rematch-end.auto.sat;
     } in record {
-  blockstarts_after = searched-refused searched c.if-end-size.true c.refuse_edit.ensures.value
+      blockstarts_after = searched-refused searched c.if-end-size.true c.refuse_edit.ensures.value
           c.refuse_edit.ensures.hall_after c.refuse_edit.ensures.blockcols_after.0
           c.refuse_edit.ensures.blockcols_after.1;
-  sat_unchanged = searched-cleared searched;
-}
+      sat_unchanged = searched-cleared searched;
+    }
 
 pub clear-requires-3 : goal.clear-requires-3
 clear-requires-3 c =
@@ -157,17 +157,17 @@ block_matched-count-requires c =
       cols_length = c.rematch-end.auto.scol;
       places_length = c.rematch-end.auto.sat;
     } in record {
-  shaped = searched.given.valid.shaped;
-  reversible = (
-          searched-reversible searched (omega (arith, c.if-end-size.false)),
-          entries_few searched.given.valid.shaped searched.given.editable,
-        );
-  roomy = searched-room searched;
-  size_in_bounds = (
-            searched.given.room.1.1.1.1.1.1.1.1.1.1.0,
-            searched.given.room.1.1.1.1.1.1.1.1.1.1.1.0,
-          );
-}
+      shaped = searched.given.valid.shaped;
+      reversible = (
+        searched-reversible searched (omega (arith, c.if-end-size.false)),
+        entries_few searched.given.valid.shaped searched.given.editable,
+      );
+      roomy = searched-room searched;
+      size_in_bounds = (
+        searched.given.room.1.1.1.1.1.1.1.1.1.1.0,
+        searched.given.room.1.1.1.1.1.1.1.1.1.1.1.0,
+      );
+    }
 
 pub shape_of-visited : goal.shape_of-visited
 shape_of-visited c =
@@ -335,7 +335,7 @@ returns c =
       cols_length = c.rematch-end.auto.scol;
       places_length = c.rematch-end.auto.sat;
     } in record {
-  blockstarts_after = searched-accepted searched (omega (arith, c.if-end-size.false)) c.clear-3.ensures
+      blockstarts_after = searched-accepted searched (omega (arith, c.if-end-size.false)) c.clear-3.ensures
           c.block_matched-count.ensures.holds_blocks;
-  sat_unchanged = passed-cleared searched c.block_matched-count.ensures.same_work;
-}
+      sat_unchanged = passed-cleared searched c.block_matched-count.ensures.same_work;
+    }

@@ -6,17 +6,17 @@ use Rattle.exports.proofs.form.dechvorim_find_block_diag_form.Goals as goal
 pub returns-in-Accepted : goal.returns-in-Accepted
 returns-in-Accepted c =
     let told = c.in-Accepted.is in record {
-  number = sym (ap number_of told) ∙ ap (λ (x : Outcome). number_of x.answer) c.find_block_diag_form-answer.ensures.outcome;
-  place = sym (ap place_of told) ∙ ap (λ (x : Outcome). place_of x.answer) c.find_block_diag_form-answer.ensures.outcome;
-  count = sym (ap count_of told) ∙ ap (λ (x : Outcome). count_of x.answer) c.find_block_diag_form-answer.ensures.outcome;
-  buffers = ap (λ (x : Outcome). x.after) c.find_block_diag_form-answer.ensures.outcome;
-}
+      number = sym (ap number_of told) ∙ ap (λ (x : Outcome). number_of x.answer) c.find_block_diag_form-answer.ensures.outcome;
+      place = sym (ap place_of told) ∙ ap (λ (x : Outcome). place_of x.answer) c.find_block_diag_form-answer.ensures.outcome;
+      count = sym (ap count_of told) ∙ ap (λ (x : Outcome). count_of x.answer) c.find_block_diag_form-answer.ensures.outcome;
+      buffers = ap (λ (x : Outcome). x.after) c.find_block_diag_form-answer.ensures.outcome;
+    }
 
 pub returns-in-Refused : goal.returns-in-Refused
 returns-in-Refused c =
     let told = c.in-Refused.is in record {
-  number = sym (ap number_of told) ∙ ap (λ (x : Outcome). number_of x.answer) c.find_block_diag_form-answer.ensures.outcome;
-  place = sym (ap place_of told) ∙ ap (λ (x : Outcome). place_of x.answer) c.find_block_diag_form-answer.ensures.outcome;
-  count = sym (ap count_of told) ∙ ap (λ (x : Outcome). count_of x.answer) c.find_block_diag_form-answer.ensures.outcome;
-  buffers = ap (λ (x : Outcome). x.after) c.find_block_diag_form-answer.ensures.outcome;
-}
+      number = sym (ap number_of told) ∙ ap (λ (x : Outcome). number_of x.answer) c.find_block_diag_form-answer.ensures.outcome;
+      place = sym (ap place_of told) ∙ ap (λ (x : Outcome). place_of x.answer) c.find_block_diag_form-answer.ensures.outcome;
+      count = sym (ap count_of told) ∙ ap (λ (x : Outcome). count_of x.answer) c.find_block_diag_form-answer.ensures.outcome;
+      buffers = ap (λ (x : Outcome). x.after) c.find_block_diag_form-answer.ensures.outcome;
+    }

@@ -13,15 +13,15 @@ use Rattle.matching.proofs.diagonal.find_diag_matching.Goals as goal
 pub returns-in-Refused : goal.returns-in-Refused
 returns-in-Refused c = record {
   outcome = early-outcome c.args.size c.args.starts.now c.args.rows.now (lent c.args.visited.now c.args.cheap.now c.args.scol.now c.args.sat.now c.args.row2col.now c.args.hall.now) _ ((sym (c.check_early-first.ensures (buffers c.args.size (lent
-          c.args.visited.now c.args.cheap.now c.args.scol.now c.args.sat.now
-          c.args.row2col.now c.args.hall.now)) c.lacks_room-short.ensures)) ∙
-          c.in-Refused.is);
+      c.args.visited.now c.args.cheap.now c.args.scol.now c.args.sat.now
+      c.args.row2col.now c.args.hall.now)) c.lacks_room-short.ensures)) ∙
+      c.in-Refused.is);
   meaning = early_means c.args.size c.args.starts.now c.args.rows.now (lent c.args.visited.now c.args.cheap.now c.args.scol.now c.args.sat.now c.args.row2col.now
-          c.args.hall.now) _ _ ((sym (c.check_early-first.ensures (buffers c.args.size
-          (lent
-          c.args.visited.now c.args.cheap.now c.args.scol.now c.args.sat.now
-          c.args.row2col.now c.args.hall.now)) c.lacks_room-short.ensures)) ∙
-          c.in-Refused.is);
+      c.args.hall.now) _ _ ((sym (c.check_early-first.ensures (buffers c.args.size
+      (lent
+      c.args.visited.now c.args.cheap.now c.args.scol.now c.args.sat.now
+      c.args.row2col.now c.args.hall.now)) c.lacks_room-short.ensures)) ∙
+      c.in-Refused.is);
 }
 
 pub clear-requires : goal.clear-requires
@@ -34,33 +34,89 @@ clear-requires c =
 pub check_repeats-second-requires : goal.check_repeats-second-requires
 check_repeats-second-requires c = record {
   shaped = (
-        (early_passed c.args.size c.args.starts.now c.args.rows.now (buffers c.args.size (lent c.args.visited.now c.args.cheap.now c.args.scol.now c.args.sat.now c.args.row2col.now c.args.hall.now)) ((sym (c.check_early-first.ensures (buffers
-            c.args.size (lent c.args.visited.now c.args.cheap.now c.args.scol.now
-            c.args.sat.now c.args.row2col.now c.args.hall.now)) c.lacks_room-short.ensures)) ∙ c.in_default.is)).shaped,
-        (early_passed c.args.size c.args.starts.now c.args.rows.now (buffers c.args.size (lent c.args.visited.now
-            c.args.cheap.now c.args.scol.now c.args.sat.now c.args.row2col.now c.args.hall.now)) ((sym (c.check_early-first.ensures (buffers c.args.size (lent c.args.visited.now
-            c.args.cheap.now c.args.scol.now c.args.sat.now c.args.row2col.now
-            c.args.hall.now)) c.lacks_room-short.ensures)) ∙ c.in_default.is)).below,
-      );
+    (early_passed c.args.size c.args.starts.now c.args.rows.now (buffers c.args.size (lent c.args.visited.now c.args.cheap.now c.args.scol.now c.args.sat.now c.args.row2col.now c.args.hall.now)) ((sym (c.check_early-first.ensures (buffers
+        c.args.size (lent c.args.visited.now c.args.cheap.now c.args.scol.now
+        c.args.sat.now c.args.row2col.now c.args.hall.now)) c.lacks_room-short.ensures)) ∙ c.in_default.is)).shaped,
+    (early_passed c.args.size c.args.starts.now c.args.rows.now (buffers c.args.size (lent c.args.visited.now
+        c.args.cheap.now c.args.scol.now c.args.sat.now c.args.row2col.now c.args.hall.now)) ((sym (c.check_early-first.ensures (buffers c.args.size (lent c.args.visited.now
+        c.args.cheap.now c.args.scol.now c.args.sat.now c.args.row2col.now
+        c.args.hall.now)) c.lacks_room-short.ensures)) ∙ c.in_default.is)).below,
+  );
   size_in_bounds = (
-        omega (
-          arith,
-          (early_passed c.args.size c.args.starts.now c.args.rows.now (buffers
-              c.args.size (lent c.args.visited.now c.args.cheap.now c.args.scol.now
-              c.args.sat.now c.args.row2col.now c.args.hall.now)) ((sym
-              (c.check_early-first.ensures (buffers c.args.size (lent c.args.visited.now c.args.cheap.now
-              c.args.scol.now c.args.sat.now c.args.row2col.now c.args.hall.now))
-              c.lacks_room-short.ensures)) ∙ c.in_default.is)).room.0,
-          c.clear.auto,
-        ),
-        rw
-            c.clear.ensures (zero_below c.args.size c.args.size c.args.visited.now
-            (omega arith)),
-      );
+    omega (
+      arith,
+      (early_passed c.args.size c.args.starts.now c.args.rows.now (buffers
+          c.args.size (lent c.args.visited.now c.args.cheap.now c.args.scol.now
+          c.args.sat.now c.args.row2col.now c.args.hall.now)) ((sym
+          (c.check_early-first.ensures (buffers c.args.size (lent c.args.visited.now c.args.cheap.now
+          c.args.scol.now c.args.sat.now c.args.row2col.now c.args.hall.now))
+          c.lacks_room-short.ensures)) ∙ c.in_default.is)).room.0,
+      c.clear.auto,
+    ),
+    rw
+        c.clear.ensures (zero_below c.args.size c.args.size c.args.visited.now
+        (omega arith)),
+  );
 }
 
 pub clear_work-requires : goal.clear_work-requires
-clear_work-requires c =
+clear_work-requires c = (
+  omega (
+    arith,
+    (early_passed c.args.size c.args.starts.now c.args.rows.now (buffers
+        c.args.size (lent c.args.visited.now c.args.cheap.now c.args.scol.now
+        c.args.sat.now c.args.row2col.now c.args.hall.now)) ((sym
+        (c.check_early-first.ensures (buffers c.args.size (lent c.args.visited.now c.args.cheap.now
+        c.args.scol.now c.args.sat.now c.args.row2col.now c.args.hall.now))
+        c.lacks_room-short.ensures)) ∙ c.in_default.is)).room.0,
+    c.clear.auto,
+    c.check_repeats-second.auto,
+  ),
+  (early_passed c.args.size c.args.starts.now c.args.rows.now (buffers c.args.size (lent c.args.visited.now c.args.cheap.now
+      c.args.scol.now c.args.sat.now c.args.row2col.now c.args.hall.now)) ((sym
+      (c.check_early-first.ensures (buffers c.args.size (lent c.args.visited.now
+      c.args.cheap.now c.args.scol.now c.args.sat.now c.args.row2col.now
+      c.args.hall.now)) c.lacks_room-short.ensures)) ∙ c.in_default.is)).room.1.0,
+  (early_passed
+      c.args.size c.args.starts.now c.args.rows.now (buffers c.args.size (lent
+      c.args.visited.now c.args.cheap.now c.args.scol.now c.args.sat.now
+      c.args.row2col.now c.args.hall.now)) ((sym (c.check_early-first.ensures
+      (buffers
+      c.args.size (lent c.args.visited.now c.args.cheap.now c.args.scol.now
+      c.args.sat.now c.args.row2col.now c.args.hall.now)) c.lacks_room-short.ensures)) ∙ c.in_default.is)).room.1.1.0,
+  (early_passed c.args.size c.args.starts.now c.args.rows.now (buffers c.args.size (lent c.args.visited.now
+      c.args.cheap.now c.args.scol.now c.args.sat.now c.args.row2col.now
+      c.args.hall.now)) ((sym (c.check_early-first.ensures (buffers c.args.size (lent c.args.visited.now c.args.cheap.now c.args.scol.now c.args.sat.now c.args.row2col.now
+      c.args.hall.now)) c.lacks_room-short.ensures)) ∙ c.in_default.is)).room.1.1.1.0,
+)
+
+pub returns-in-Refused-second : goal.returns-in-Refused-second
+returns-in-Refused-second c =
+    let e = sym c.check_repeats-second.ensures.value ∙ c.in-Refused-second.is in record {
+      outcome = ap (ended (Refused _)) (c.clear_work.ensures _ _ ∙ cleared_same c.args.size (lent c.args.visited.now c.args.cheap.now c.args.scol.now c.args.sat.now
+          c.args.row2col.now c.args.hall.now) (lent _ _ _ _ c.args.row2col.now c.args.hall.now) _ _ (ap
+          (drop c.args.size) c.check_repeats-second.ensures.marks_unchanged ∙ filled_beyond c.args.size 0
+          c.args.visited.now c.clear.ensures) refl refl refl)
+          ∙ repeat_outcome c.args.size c.args.starts.now c.args.rows.now (lent
+          c.args.visited.now c.args.cheap.now c.args.scol.now c.args.sat.now c.args.row2col.now c.args.hall.now) _ ((sym (c.check_early-first.ensures (buffers c.args.size (lent
+          c.args.visited.now c.args.cheap.now c.args.scol.now c.args.sat.now
+          c.args.row2col.now c.args.hall.now)) c.lacks_room-short.ensures)) ∙
+          c.in_default.is) e;
+      meaning = repeat_means c.args.size c.args.starts.now c.args.rows.now (lent c.args.visited.now c.args.cheap.now c.args.scol.now c.args.sat.now c.args.row2col.now c.args.hall.now) _ _ e;
+    }
+
+pub match_valid-answer-requires : goal.match_valid-answer-requires
+match_valid-answer-requires c = record {
+  shaped = (
+    (early_passed c.args.size c.args.starts.now c.args.rows.now (buffers c.args.size (lent c.args.visited.now c.args.cheap.now c.args.scol.now c.args.sat.now c.args.row2col.now c.args.hall.now)) ((sym (c.check_early-first.ensures (buffers
+        c.args.size (lent c.args.visited.now c.args.cheap.now c.args.scol.now
+        c.args.sat.now c.args.row2col.now c.args.hall.now)) c.lacks_room-short.ensures)) ∙ c.in_default.is)).shaped,
+    (early_passed c.args.size c.args.starts.now c.args.rows.now (buffers c.args.size (lent c.args.visited.now
+        c.args.cheap.now c.args.scol.now c.args.sat.now c.args.row2col.now c.args.hall.now)) ((sym (c.check_early-first.ensures (buffers c.args.size (lent c.args.visited.now
+        c.args.cheap.now c.args.scol.now c.args.sat.now c.args.row2col.now
+        c.args.hall.now)) c.lacks_room-short.ensures)) ∙ c.in_default.is)).below,
+  );
+  roomy = (
     (
       omega (
         arith,
@@ -75,115 +131,57 @@ clear_work-requires c =
       ),
       (early_passed c.args.size c.args.starts.now c.args.rows.now (buffers c.args.size (lent c.args.visited.now c.args.cheap.now
           c.args.scol.now c.args.sat.now c.args.row2col.now c.args.hall.now)) ((sym
-          (c.check_early-first.ensures (buffers c.args.size (lent c.args.visited.now
-          c.args.cheap.now c.args.scol.now c.args.sat.now c.args.row2col.now
-          c.args.hall.now)) c.lacks_room-short.ensures)) ∙ c.in_default.is)).room.1.0,
-      (early_passed
-          c.args.size c.args.starts.now c.args.rows.now (buffers c.args.size (lent
-          c.args.visited.now c.args.cheap.now c.args.scol.now c.args.sat.now
-          c.args.row2col.now c.args.hall.now)) ((sym (c.check_early-first.ensures
-          (buffers
-          c.args.size (lent c.args.visited.now c.args.cheap.now c.args.scol.now
-          c.args.sat.now c.args.row2col.now c.args.hall.now)) c.lacks_room-short.ensures)) ∙ c.in_default.is)).room.1.1.0,
-      (early_passed c.args.size c.args.starts.now c.args.rows.now (buffers c.args.size (lent c.args.visited.now
-          c.args.cheap.now c.args.scol.now c.args.sat.now c.args.row2col.now
-          c.args.hall.now)) ((sym (c.check_early-first.ensures (buffers c.args.size (lent c.args.visited.now c.args.cheap.now c.args.scol.now c.args.sat.now c.args.row2col.now
-          c.args.hall.now)) c.lacks_room-short.ensures)) ∙ c.in_default.is)).room.1.1.1.0,
-    )
-
-pub returns-in-Refused-second : goal.returns-in-Refused-second
-returns-in-Refused-second c =
-    let e = sym c.check_repeats-second.ensures.value ∙ c.in-Refused-second.is in record {
-  outcome = ap (ended (Refused _)) (c.clear_work.ensures _ _ ∙ cleared_same c.args.size (lent c.args.visited.now c.args.cheap.now c.args.scol.now c.args.sat.now
-          c.args.row2col.now c.args.hall.now) (lent _ _ _ _ c.args.row2col.now c.args.hall.now) _ _ (ap
-          (drop c.args.size) c.check_repeats-second.ensures.marks_unchanged ∙ filled_beyond c.args.size 0
-          c.args.visited.now c.clear.ensures) refl refl refl)
-          ∙ repeat_outcome c.args.size c.args.starts.now c.args.rows.now (lent
-          c.args.visited.now c.args.cheap.now c.args.scol.now c.args.sat.now c.args.row2col.now c.args.hall.now) _ ((sym (c.check_early-first.ensures (buffers c.args.size (lent
-          c.args.visited.now c.args.cheap.now c.args.scol.now c.args.sat.now
-          c.args.row2col.now c.args.hall.now)) c.lacks_room-short.ensures)) ∙
-          c.in_default.is) e;
-  meaning = repeat_means c.args.size c.args.starts.now c.args.rows.now (lent c.args.visited.now c.args.cheap.now c.args.scol.now c.args.sat.now c.args.row2col.now c.args.hall.now) _ _ e;
-}
-
-pub match_valid-answer-requires : goal.match_valid-answer-requires
-match_valid-answer-requires c = record {
-  shaped = (
-        (early_passed c.args.size c.args.starts.now c.args.rows.now (buffers c.args.size (lent c.args.visited.now c.args.cheap.now c.args.scol.now c.args.sat.now c.args.row2col.now c.args.hall.now)) ((sym (c.check_early-first.ensures (buffers
-            c.args.size (lent c.args.visited.now c.args.cheap.now c.args.scol.now
-            c.args.sat.now c.args.row2col.now c.args.hall.now)) c.lacks_room-short.ensures)) ∙ c.in_default.is)).shaped,
-        (early_passed c.args.size c.args.starts.now c.args.rows.now (buffers c.args.size (lent c.args.visited.now
-            c.args.cheap.now c.args.scol.now c.args.sat.now c.args.row2col.now c.args.hall.now)) ((sym (c.check_early-first.ensures (buffers c.args.size (lent c.args.visited.now
-            c.args.cheap.now c.args.scol.now c.args.sat.now c.args.row2col.now
-            c.args.hall.now)) c.lacks_room-short.ensures)) ∙ c.in_default.is)).below,
-      );
-  roomy = (
-        (
-          omega (
-            arith,
-            (early_passed c.args.size c.args.starts.now c.args.rows.now (buffers
-                c.args.size (lent c.args.visited.now c.args.cheap.now c.args.scol.now
-                c.args.sat.now c.args.row2col.now c.args.hall.now)) ((sym
-                (c.check_early-first.ensures (buffers c.args.size (lent c.args.visited.now c.args.cheap.now
-                c.args.scol.now c.args.sat.now c.args.row2col.now c.args.hall.now))
-                c.lacks_room-short.ensures)) ∙ c.in_default.is)).room.0,
-            c.clear.auto,
-            c.check_repeats-second.auto,
-          ),
-          (early_passed c.args.size c.args.starts.now c.args.rows.now (buffers c.args.size (lent c.args.visited.now c.args.cheap.now
-              c.args.scol.now c.args.sat.now c.args.row2col.now c.args.hall.now)) ((sym
-              (c.check_early-first.ensures (buffers c.args.size (lent c.args.visited.now c.args.cheap.now c.args.scol.now c.args.sat.now c.args.row2col.now
-              c.args.hall.now)) c.lacks_room-short.ensures)) ∙ c.in_default.is)).room.1,
-        ),
-        rw (c.check_repeats-second.ensures.marks_unchanged, c.clear.ensures) (zero_below c.args.size
-            c.args.size c.args.visited.now (omega arith)),
-      );
+          (c.check_early-first.ensures (buffers c.args.size (lent c.args.visited.now c.args.cheap.now c.args.scol.now c.args.sat.now c.args.row2col.now
+          c.args.hall.now)) c.lacks_room-short.ensures)) ∙ c.in_default.is)).room.1,
+    ),
+    rw (c.check_repeats-second.ensures.marks_unchanged, c.clear.ensures) (zero_below c.args.size
+        c.args.size c.args.visited.now (omega arith)),
+  );
 }
 
 pub clear_work-requires-2 : goal.clear_work-requires-2
-clear_work-requires-2 c =
-    (
-      omega (
-        arith,
-        (early_passed c.args.size c.args.starts.now c.args.rows.now (buffers
-            c.args.size (lent c.args.visited.now c.args.cheap.now c.args.scol.now
-            c.args.sat.now c.args.row2col.now c.args.hall.now)) ((sym
-            (c.check_early-first.ensures (buffers c.args.size (lent c.args.visited.now c.args.cheap.now
-            c.args.scol.now c.args.sat.now c.args.row2col.now c.args.hall.now))
-            c.lacks_room-short.ensures)) ∙ c.in_default.is)).room.0,
-        c.clear.auto,
-        c.check_repeats-second.auto,
-        c.match_valid-answer.auto,
-      ),
-      omega (
-        arith,
-        (early_passed c.args.size c.args.starts.now c.args.rows.now (buffers c.args.size (lent
-            c.args.visited.now c.args.cheap.now c.args.scol.now c.args.sat.now
-            c.args.row2col.now c.args.hall.now)) ((sym (c.check_early-first.ensures (buffers c.args.size
-            (lent c.args.visited.now c.args.cheap.now c.args.scol.now c.args.sat.now
-            c.args.row2col.now c.args.hall.now)) c.lacks_room-short.ensures)) ∙
-            c.in_default.is)).room.1.0,
-        c.match_valid-answer.auto,
-      ),
-      omega (
-        arith,
-        (early_passed c.args.size c.args.starts.now c.args.rows.now (buffers c.args.size (lent
-            c.args.visited.now c.args.cheap.now c.args.scol.now c.args.sat.now c.args.row2col.now c.args.hall.now)) ((sym (c.check_early-first.ensures (buffers c.args.size (lent
-            c.args.visited.now c.args.cheap.now c.args.scol.now c.args.sat.now
-            c.args.row2col.now c.args.hall.now)) c.lacks_room-short.ensures)) ∙
-            c.in_default.is)).room.1.1.0,
-        c.match_valid-answer.auto,
-      ),
-      omega (
-        arith,
-        (early_passed c.args.size c.args.starts.now c.args.rows.now (buffers c.args.size (lent
-            c.args.visited.now c.args.cheap.now c.args.scol.now c.args.sat.now c.args.row2col.now c.args.hall.now)) ((sym (c.check_early-first.ensures (buffers c.args.size (lent
-            c.args.visited.now c.args.cheap.now c.args.scol.now c.args.sat.now
-            c.args.row2col.now c.args.hall.now)) c.lacks_room-short.ensures)) ∙
-            c.in_default.is)).room.1.1.1.0,
-        c.match_valid-answer.auto,
-      ),
-    )
+clear_work-requires-2 c = (
+  omega (
+    arith,
+    (early_passed c.args.size c.args.starts.now c.args.rows.now (buffers
+        c.args.size (lent c.args.visited.now c.args.cheap.now c.args.scol.now
+        c.args.sat.now c.args.row2col.now c.args.hall.now)) ((sym
+        (c.check_early-first.ensures (buffers c.args.size (lent c.args.visited.now c.args.cheap.now
+        c.args.scol.now c.args.sat.now c.args.row2col.now c.args.hall.now))
+        c.lacks_room-short.ensures)) ∙ c.in_default.is)).room.0,
+    c.clear.auto,
+    c.check_repeats-second.auto,
+    c.match_valid-answer.auto,
+  ),
+  omega (
+    arith,
+    (early_passed c.args.size c.args.starts.now c.args.rows.now (buffers c.args.size (lent
+        c.args.visited.now c.args.cheap.now c.args.scol.now c.args.sat.now
+        c.args.row2col.now c.args.hall.now)) ((sym (c.check_early-first.ensures (buffers c.args.size
+        (lent c.args.visited.now c.args.cheap.now c.args.scol.now c.args.sat.now
+        c.args.row2col.now c.args.hall.now)) c.lacks_room-short.ensures)) ∙
+        c.in_default.is)).room.1.0,
+    c.match_valid-answer.auto,
+  ),
+  omega (
+    arith,
+    (early_passed c.args.size c.args.starts.now c.args.rows.now (buffers c.args.size (lent
+        c.args.visited.now c.args.cheap.now c.args.scol.now c.args.sat.now c.args.row2col.now c.args.hall.now)) ((sym (c.check_early-first.ensures (buffers c.args.size (lent
+        c.args.visited.now c.args.cheap.now c.args.scol.now c.args.sat.now
+        c.args.row2col.now c.args.hall.now)) c.lacks_room-short.ensures)) ∙
+        c.in_default.is)).room.1.1.0,
+    c.match_valid-answer.auto,
+  ),
+  omega (
+    arith,
+    (early_passed c.args.size c.args.starts.now c.args.rows.now (buffers c.args.size (lent
+        c.args.visited.now c.args.cheap.now c.args.scol.now c.args.sat.now c.args.row2col.now c.args.hall.now)) ((sym (c.check_early-first.ensures (buffers c.args.size (lent
+        c.args.visited.now c.args.cheap.now c.args.scol.now c.args.sat.now
+        c.args.row2col.now c.args.hall.now)) c.lacks_room-short.ensures)) ∙
+        c.in_default.is)).room.1.1.1.0,
+    c.match_valid-answer.auto,
+  ),
+)
 
 pub shape_of-visited : goal.shape_of-visited
 shape_of-visited c =
@@ -208,12 +206,12 @@ returns c =
     c.match_valid-answer.ensures.same_beyond.3)
     ∙ c.match_valid-answer.ensures.hall_after (lent c.args.visited.now c.args.cheap.now
     c.args.scol.now c.args.sat.now c.args.row2col.now c.args.hall.now) refl refl in record {
-  outcome = f ∙ verdict_outcome c.args.size c.args.starts.now c.args.rows.now (lent c.args.visited.now c.args.cheap.now c.args.scol.now c.args.sat.now c.args.row2col.now c.args.hall.now) ((sym (c.check_early-first.ensures (buffers c.args.size (lent
+      outcome = f ∙ verdict_outcome c.args.size c.args.starts.now c.args.rows.now (lent c.args.visited.now c.args.cheap.now c.args.scol.now c.args.sat.now c.args.row2col.now c.args.hall.now) ((sym (c.check_early-first.ensures (buffers c.args.size (lent
           c.args.visited.now c.args.cheap.now c.args.scol.now c.args.sat.now
           c.args.row2col.now c.args.hall.now)) c.lacks_room-short.ensures)) ∙
           c.in_default.is) e;
-  meaning = verdict_means c.args.size c.args.starts.now c.args.rows.now (lent c.args.visited.now c.args.cheap.now c.args.scol.now c.args.sat.now c.args.row2col.now c.args.hall.now) _ _ ((sym (c.check_early-first.ensures (buffers c.args.size (lent
+      meaning = verdict_means c.args.size c.args.starts.now c.args.rows.now (lent c.args.visited.now c.args.cheap.now c.args.scol.now c.args.sat.now c.args.row2col.now c.args.hall.now) _ _ ((sym (c.check_early-first.ensures (buffers c.args.size (lent
           c.args.visited.now c.args.cheap.now c.args.scol.now c.args.sat.now
           c.args.row2col.now c.args.hall.now)) c.lacks_room-short.ensures)) ∙
           c.in_default.is) e f;
-}
+    }

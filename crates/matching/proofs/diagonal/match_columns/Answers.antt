@@ -22,36 +22,36 @@ returns-then-not-search c =
     let made : Made c.args.size (column_or c.args.starts.now c.args.rows.now
     none [])
     c.loop-c.c c.loop-c.visited c.loop-c.cheap c.loop-c.scol c.loop-c.sat c.loop-c.row2col c.search.new.visited c.search.new.cheap c.search.new.scol c.search.new.sat c.search.new.row2col c.search.result = record {
-  ends = c.search.ensures.search_ends;
-  cols_beyond = c.search.ensures.scol_unchanged.0;
-  places_beyond = c.search.ensures.scol_unchanged.1;
-  visited_length = omega (arith, c.search.auto);
-  cheap_length = omega (arith, c.search.auto);
-  cols_length = omega (arith, c.search.auto);
-  places_length = omega (arith, c.search.auto);
-  matching_length = omega (arith, c.search.auto);
-} in record {
-  ends_at = ends_unedited _ _ _ c.requires.shaped.0 (going_failed c.loop-c.invariant c.loop-c-test.true (subst (Made
+      ends = c.search.ensures.search_ends;
+      cols_beyond = c.search.ensures.scol_unchanged.0;
+      places_beyond = c.search.ensures.scol_unchanged.1;
+      visited_length = omega (arith, c.search.auto);
+      cheap_length = omega (arith, c.search.auto);
+      cols_length = omega (arith, c.search.auto);
+      places_length = omega (arith, c.search.auto);
+      matching_length = omega (arith, c.search.auto);
+    } in record {
+      ends_at = ends_unedited _ _ _ c.requires.shaped.0 (going_failed c.loop-c.invariant c.loop-c-test.true (subst (Made
           _ _ _ _
           _ _ _ _ _ _ _ _ _) c.if-not-search.true made));
-  same_beyond = (slices_beyond (made_slices c.loop-c.invariant c.loop-c-test.true made)).0;
-  same_beyond_2 = (slices_beyond (made_slices c.loop-c.invariant c.loop-c-test.true made)).1;
-}
+      same_beyond = (slices_beyond (made_slices c.loop-c.invariant c.loop-c-test.true made)).0;
+      same_beyond_2 = (slices_beyond (made_slices c.loop-c.invariant c.loop-c-test.true made)).1;
+    }
 
 pub loop-c-preserved : goal.loop-c-preserved
 loop-c-preserved c =
     let made : Made c.args.size (column_or c.args.starts.now c.args.rows.now
     none [])
     c.loop-c.c c.loop-c.visited c.loop-c.cheap c.loop-c.scol c.loop-c.sat c.loop-c.row2col c.search.new.visited c.search.new.cheap c.search.new.scol c.search.new.sat c.search.new.row2col c.search.result = record {
-  ends = c.search.ensures.search_ends;
-  cols_beyond = c.search.ensures.scol_unchanged.0;
-  places_beyond = c.search.ensures.scol_unchanged.1;
-  visited_length = omega (arith, c.search.auto);
-  cheap_length = omega (arith, c.search.auto);
-  cols_length = omega (arith, c.search.auto);
-  places_length = omega (arith, c.search.auto);
-  matching_length = omega (arith, c.search.auto);
-} in
+      ends = c.search.ensures.search_ends;
+      cols_beyond = c.search.ensures.scol_unchanged.0;
+      places_beyond = c.search.ensures.scol_unchanged.1;
+      visited_length = omega (arith, c.search.auto);
+      cheap_length = omega (arith, c.search.auto);
+      cols_length = omega (arith, c.search.auto);
+      places_length = omega (arith, c.search.auto);
+      matching_length = omega (arith, c.search.auto);
+    } in
     going_more c.loop-c.invariant c.loop-c-test.true (subst (Made _ _ _ _ _ _ _ _ _ _ _ _ _) c.if-not-search.false made)
 
 pub returns : goal.returns

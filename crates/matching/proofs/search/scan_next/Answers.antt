@@ -8,12 +8,11 @@ use borrow.Author.Rules.{rules}
 use Rattle.matching.proofs.search.scan_next.Goals as goal
 
 pub loop-k-init : goal.loop-k-init
-loop-k-init c =
-    (
-      omega arith,
-      between_none (λ j. get_or c.args.visited.now (col_at c.args.row2col.now c.args.col.now
-          j) 0 ≡ c.args.mark) _,
-    )
+loop-k-init c = (
+  omega arith,
+  between_none (λ j. get_or c.args.visited.now (col_at c.args.row2col.now c.args.col.now
+      j) 0 ≡ c.args.mark) _,
+)
 
 pub col_at-requires : goal.col_at-requires
 col_at-requires c =
@@ -33,14 +32,13 @@ returns-then-by_column-mark c =
     }
 
 pub loop-k-preserved : goal.loop-k-preserved
-loop-k-preserved c =
-    (
-      omega arith,
-      between_more (λ j. get_or c.args.visited.now (col_at c.args.row2col.now c.args.col.now j) 0 ≡
-          c.args.mark) _ _ c.loop-k.invariant.1
-          (ap (λ (d : ℕ). get_or c.args.visited.now d 0) (sym c.col_at.ensures) ∙ sym
-          c.by_column.ensures ∙ c.if-by_column-mark.false),
-    )
+loop-k-preserved c = (
+  omega arith,
+  between_more (λ j. get_or c.args.visited.now (col_at c.args.row2col.now c.args.col.now j) 0 ≡
+      c.args.mark) _ _ c.loop-k.invariant.1
+      (ap (λ (d : ℕ). get_or c.args.visited.now d 0) (sym c.col_at.ensures) ∙ sym
+      c.by_column.ensures ∙ c.if-by_column-mark.false),
+)
 
 pub returns : goal.returns
 returns c =

@@ -157,10 +157,10 @@ advance-depth-requires c =
     fresh c.loop-k.invariant c.by_column-k.ensures c.loop-k-test.false
     c.put_by_column.ensures c.put_by_column-then-by_column-mark.ensures) hand
     c.requires.shaped.small few in record {
-  col_len_bound = R.short;
-  by_index = R.cols;
-  top_lt_max_size = R.room;
-}
+      col_len_bound = R.short;
+      by_index = R.cols;
+      top_lt_max_size = R.room;
+    }
 
 pub dfs_loop-smaller-then-by_column-mark : goal.dfs_loop-smaller-then-by_column-mark
 dfs_loop-smaller-then-by_column-mark c =
@@ -284,10 +284,10 @@ advance-depth-requires-else-found c =
     let R = scan_ready (arm_again {from = c.get-next.result + 1} c.dfs_loop.invariant
     c.dfs_loop-test.true hand marked c.if-found.false
     (omega (arith, c.get-next.ensures))) hand c.requires.shaped.small few in record {
-  col_len_bound = R.short;
-  by_index = R.cols;
-  top_lt_max_size = R.room;
-}
+      col_len_bound = R.short;
+      by_index = R.cols;
+      top_lt_max_size = R.room;
+    }
 
 pub dfs_loop-smaller : goal.dfs_loop-smaller
 dfs_loop-smaller c =

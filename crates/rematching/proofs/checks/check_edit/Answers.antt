@@ -13,21 +13,21 @@ pub returns-in-Refused : goal.returns-in-Refused
 unfolding late
 returns-in-Refused c =
     let four = c.check_repeats-again.ensures in record {
-  value = sym (first-refused _ _ _ (sym four.value ∙ c.in-Refused.is));
-  same_beyond = (ap (drop c.args.size) four.marks_unchanged, refl);
-  col2row_after = λ f. absurd (not_both refl f);
-}
+      value = sym (first-refused _ _ _ (sym four.value ∙ c.in-Refused.is));
+      same_beyond = (ap (drop c.args.size) four.marks_unchanged, refl);
+      col2row_after = λ f. absurd (not_both refl f);
+    }
 
 pub returns-in-Refused-outside : goal.returns-in-Refused-outside
 unfolding late
 returns-in-Refused-outside c =
     let four = c.check_repeats-again.ensures in
     let thirteen = c.check_column-outside.ensures in record {
-  value = sym (first_passed _ _ (sym four.value ∙ c.in_default.is)
+      value = sym (first_passed _ _ (sym four.value ∙ c.in_default.is)
           ∙ first-refused _ _ _ (sym thirteen ∙ c.in-Refused-outside.is));
-  same_beyond = (ap (drop c.args.size) four.marks_unchanged, refl);
-  col2row_after = λ f. absurd (not_both refl f);
-}
+      same_beyond = (ap (drop c.args.size) four.marks_unchanged, refl);
+      col2row_after = λ f. absurd (not_both refl f);
+    }
 
 pub check_replacement-unfit-requires : goal.check_replacement-unfit-requires
 check_replacement-unfit-requires c =
@@ -40,12 +40,12 @@ returns-in-Refused-unfit c =
     let four = c.check_repeats-again.ensures in
     let thirteen = c.check_column-outside.ensures in
     let fourteen = c.check_replacement-unfit.ensures in record {
-  value = sym (first_passed _ _ (sym four.value ∙ c.in_default.is)
+      value = sym (first_passed _ _ (sym four.value ∙ c.in_default.is)
           ∙ first_passed _ _ (sym thirteen ∙ c.in_default-outside.is)
           ∙ first-refused _ _ _ (sym fourteen.value ∙ c.in-Refused-unfit.is));
-  same_beyond = (fourteen.same_beyond ∙ ap (drop c.args.size) four.marks_unchanged, refl);
-  col2row_after = λ f. absurd (not_both refl f);
-}
+      same_beyond = (fourteen.same_beyond ∙ ap (drop c.args.size) four.marks_unchanged, refl);
+      col2row_after = λ f. absurd (not_both refl f);
+    }
 
 pub returns-in-Refused-mismatched : goal.returns-in-Refused-mismatched
 unfolding late
@@ -54,13 +54,13 @@ returns-in-Refused-mismatched c =
     let thirteen = c.check_column-outside.ensures in
     let fourteen = c.check_replacement-unfit.ensures in
     let fifteen = c.check_matching-mismatched.ensures in record {
-  value = sym (first_passed _ _ (sym four.value ∙ c.in_default.is)
+      value = sym (first_passed _ _ (sym four.value ∙ c.in_default.is)
           ∙ first_passed _ _ (sym thirteen ∙ c.in_default-outside.is)
           ∙ first_passed _ _ (sym fourteen.value ∙ c.in_default-unfit.is)
           ∙ first-refused _ _ _ (sym fifteen.value ∙ c.in-Refused-mismatched.is));
-  same_beyond = (fourteen.same_beyond ∙ ap (drop c.args.size) four.marks_unchanged, fifteen.same_beyond);
-  col2row_after = λ f. absurd (not_both refl f);
-}
+      same_beyond = (fourteen.same_beyond ∙ ap (drop c.args.size) four.marks_unchanged, fifteen.same_beyond);
+      col2row_after = λ f. absurd (not_both refl f);
+    }
 
 pub check_growth-requires : goal.check_growth-requires
 check_growth-requires c =
@@ -78,11 +78,11 @@ returns c =
     let thirteen = c.check_column-outside.ensures in
     let fourteen = c.check_replacement-unfit.ensures in
     let fifteen = c.check_matching-mismatched.ensures in record {
-  value = sym (first_passed _ _ (sym four.value ∙ c.in_default.is)
+      value = sym (first_passed _ _ (sym four.value ∙ c.in_default.is)
           ∙ first_passed _ _ (sym thirteen ∙ c.in_default-outside.is)
           ∙ first_passed _ _ (sym fourteen.value ∙ c.in_default-unfit.is)
           ∙ first_passed _ _ (sym fifteen.value ∙ c.in_default-mismatched.is)
           ∙ first_last _ ∙ sym c.check_growth.ensures);
-  same_beyond = (fourteen.same_beyond ∙ ap (drop c.args.size) four.marks_unchanged, fifteen.same_beyond);
-  col2row_after = λ f. fifteen.col2row_after c.in_default-mismatched.is;
-}
+      same_beyond = (fourteen.same_beyond ∙ ap (drop c.args.size) four.marks_unchanged, fifteen.same_beyond);
+      col2row_after = λ f. fifteen.col2row_after c.in_default-mismatched.is;
+    }

@@ -21,10 +21,10 @@ returns-then-r-size c =
     let found = c.first_mismatched-r.ensures in
     let beyond = found.same_beyond ∙ filled_beyond c.args.size none c.args.col2row.now
     c.fill.ensures in record {
-  value = c.refuse.ensures ∙ found_refused 15 _ _ _ found.value (omega arith);
-  same_beyond = beyond;
-  col2row_after = λ f. absurd (not_both c.refuse.ensures f);
-}
+      value = c.refuse.ensures ∙ found_refused 15 _ _ _ found.value (omega arith);
+      same_beyond = beyond;
+      col2row_after = λ f. absurd (not_both c.refuse.ensures f);
+    }
 
 pub returns : goal.returns
 unfolding mismatched_row
@@ -32,7 +32,7 @@ returns c =
     let found = c.first_mismatched-r.ensures in
     let beyond = found.same_beyond ∙ filled_beyond c.args.size none c.args.col2row.now
     c.fill.ensures in record {
-  value = found_none 15 _ _ _ found.value (omega arith);
-  same_beyond = beyond;
-  col2row_after = λ f. front-filled c.args.size _ _ _ (omega arith) (found.col2row_after (omega arith)) beyond;
-}
+      value = found_none 15 _ _ _ found.value (omega arith);
+      same_beyond = beyond;
+      col2row_after = λ f. front-filled c.args.size _ _ _ (omega arith) (found.col2row_after (omega arith)) beyond;
+    }

@@ -9,14 +9,14 @@ pub returns-then-k-replacement : goal.returns-then-k-replacement
 unfolding unfit_row
 returns-then-k-replacement c =
     let found = c.first_unfit-k.ensures in record {
-  value = c.refuse.ensures ∙ found_refused 14 _ _ _ found.value (omega arith);
-  same_beyond = found.same_beyond;
-}
+      value = c.refuse.ensures ∙ found_refused 14 _ _ _ found.value (omega arith);
+      same_beyond = found.same_beyond;
+    }
 
 pub returns : goal.returns
 unfolding unfit_row
 returns c =
     let found = c.first_unfit-k.ensures in record {
-  value = found_none 14 _ _ _ found.value (omega arith);
-  same_beyond = found.same_beyond;
-}
+      value = found_none 14 _ _ _ found.value (omega arith);
+      same_beyond = found.same_beyond;
+    }

@@ -21,10 +21,10 @@ returns-then-is_mismatched c =
     let inv = c.loop-r.invariant in
     let test = mismatch_test inv c.requires.shaped.0.small c.requires.shaped.1 (omega arith)
     c.by_row.ensures c.is_mismatched.ensures in record {
-  value = sym (first_at _ _ _ (omega arith) inv.suits (sym test ∙ c.if-is_mismatched.true));
-  same_beyond = inv.kept.beyond;
-  col2row_after = λ e. absurd (omega arith);
-}
+      value = sym (first_at _ _ _ (omega arith) inv.suits (sym test ∙ c.if-is_mismatched.true));
+      same_beyond = inv.kept.beyond;
+      col2row_after = λ e. absurd (omega arith);
+    }
 
 pub put_by_column-requires : goal.put_by_column-requires
 put_by_column-requires c =
@@ -49,7 +49,7 @@ pub returns : goal.returns
 returns c =
     let inv = c.loop-r.invariant in
     let e : c.loop-r.r ≡ c.args.size = omega (arith, inv.to) in record {
-  value = e ∙ sym (first-none _ _ (λ j l. inv.suits j (omega arith)));
-  same_beyond = inv.kept.beyond;
-  col2row_after = λ f. record_end (rw e at inv) c.requires.shaped.1;
-}
+      value = e ∙ sym (first-none _ _ (λ j l. inv.suits j (omega arith)));
+      same_beyond = inv.kept.beyond;
+      col2row_after = λ f. record_end (rw e at inv) c.requires.shaped.1;
+    }

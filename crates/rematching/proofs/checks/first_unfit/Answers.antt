@@ -22,9 +22,9 @@ returns-then-is_unfit c =
     let inv = c.loop-k.invariant in
     let test = unfit_test inv c.requires.2 (omega arith) c.row_at-row.ensures
     c.is_unfit.ensures in record {
-  value = sym (first_at _ _ _ (omega arith) inv.fit (sym test ∙ c.if-is_unfit.true));
-  same_beyond = inv.kept.beyond;
-}
+      value = sym (first_at _ _ _ (omega arith) inv.fit (sym test ∙ c.if-is_unfit.true));
+      same_beyond = inv.kept.beyond;
+    }
 
 pub put_by_row-requires : goal.put_by_row-requires
 put_by_row-requires c =
@@ -53,6 +53,6 @@ pub returns : goal.returns
 returns c =
     let inv = c.loop-k.invariant in
     let e : c.loop-k.k ≡ length c.args.replacement.now = omega (arith, inv.to) in record {
-  value = e ∙ sym (first-none _ _ (λ j l. inv.fit j (omega arith)));
-  same_beyond = inv.kept.beyond;
-}
+      value = e ∙ sym (first-none _ _ (λ j l. inv.fit j (omega arith)));
+      same_beyond = inv.kept.beyond;
+    }

@@ -13,21 +13,21 @@ pub search-requires : goal.search-requires
 search-requires c =
     let room : length c.put_by_row.new.s ≡ length c.args.row2col.now =
     omega (arith, c.put_by_row.auto) in record {
-  shaped = c.requires.shaped.0;
-  search_ready = edit_ready c.put_by_row.new.s c.requires.shaped.0 c.requires.shaped.1 c.requires.editable
+      shaped = c.requires.shaped.0;
+      search_ready = edit_ready c.put_by_row.new.s c.requires.shaped.0 c.requires.shaped.1 c.requires.editable
           c.requires.unused room;
-}
+    }
 
 pub returns-then-search : goal.returns-then-search
 returns-then-search c =
     let X = leaves_found _ c.requires.shaped.0 c.requires.shaped.1 c.requires.editable c.requires.row_value
     c.put_by_row.ensures c.search.ensures.search_ends c.if-search.true in
     let stack = c.search.ensures.scol_unchanged in record {
-  ends_at = X.ends;
-  row2col_unchanged = X.kept;
-  same_beyond = X.matching;
-  same_beyond_2 = (X.visited, X.cheap, stack.0, stack.1);
-}
+      ends_at = X.ends;
+      row2col_unchanged = X.kept;
+      same_beyond = X.matching;
+      same_beyond_2 = (X.visited, X.cheap, stack.0, stack.1);
+    }
 
 pub put_by_row-requires-2 : goal.put_by_row-requires-2
 put_by_row-requires-2 c =
@@ -40,8 +40,8 @@ returns c =
     c.requires.row_value c.put_by_row.ensures c.search.ensures.search_ends
     c.if-search.false c.put_by_row-2.ensures in
     let stack = c.search.ensures.scol_unchanged in record {
-  ends_at = X.ends;
-  row2col_unchanged = X.kept;
-  same_beyond = X.matching;
-  same_beyond_2 = (X.visited, X.cheap, stack.0, stack.1);
-}
+      ends_at = X.ends;
+      row2col_unchanged = X.kept;
+      same_beyond = X.matching;
+      same_beyond_2 = (X.visited, X.cheap, stack.0, stack.1);
+    }

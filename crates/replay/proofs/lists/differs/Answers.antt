@@ -10,12 +10,11 @@ loop-i-init c =
     (omega arith, sym (some-zero (differs_at c.args.buffer.now c.args.list.now)))
 
 pub loop-i-preserved : goal.loop-i-preserved
-loop-i-preserved c =
-    (
-      omega arith,
-      c.or-found.ensures ∙ rw (c.number_or.ensures, c.loop-i.invariant.1)
-          (sym (some_more (differs_at c.args.buffer.now c.args.list.now) c.loop-i.i)),
-    )
+loop-i-preserved c = (
+  omega arith,
+  c.or-found.ensures ∙ rw (c.number_or.ensures, c.loop-i.invariant.1)
+      (sym (some_more (differs_at c.args.buffer.now c.args.list.now) c.loop-i.i)),
+)
 
 pub returns : goal.returns
 returns c =

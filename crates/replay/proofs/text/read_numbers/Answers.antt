@@ -14,32 +14,31 @@ pub loop-count-smaller : goal.loop-count-smaller
 loop-count-smaller c = simp length-set (omega arith)
 
 pub loop-count-preserved : goal.loop-count-preserved
-loop-count-preserved c =
-    (
-      simp length-set (omega arith),
-      simp length-set c.loop-count.invariant.1,
-      store-number c.loop-count.numbers c.loop-count.count c.args.text.now c.loop-count.at
-          c.loop-count-test.true (sym c.number_at.ensures ∙ c.in-Number.is)
-          ∙ c.loop-count.invariant.2,
-    )
+loop-count-preserved c = (
+  simp length-set (omega arith),
+  simp length-set c.loop-count.invariant.1,
+  store-number c.loop-count.numbers c.loop-count.count c.args.text.now c.loop-count.at
+      c.loop-count-test.true (sym c.number_at.ensures ∙ c.in-Number.is)
+      ∙ c.loop-count.invariant.2,
+)
 
 pub returns-in-TooLarge : goal.returns-in-TooLarge
 returns-in-TooLarge c = record {
   prefix_len = (search rules, sym (length-take-le _ _ c.loop-count.invariant.0));
   whole_after = sym (store-large c.loop-count.numbers c.loop-count.count c.args.text.now c.loop-count.at
-          c.loop-count-test.true (sym c.number_at.ensures ∙ c.in-TooLarge.is)) ∙ c.loop-count.invariant.2;
+      c.loop-count-test.true (sym c.number_at.ensures ∙ c.in-TooLarge.is)) ∙ c.loop-count.invariant.2;
 }
 
 pub returns-in-End : goal.returns-in-End
 returns-in-End c = record {
   prefix_len = (search rules, sym (length-take-le _ _ c.loop-count.invariant.0));
   whole_after = sym (store-end c.loop-count.numbers c.loop-count.count c.args.text.now c.loop-count.at
-          c.loop-count-test.true (sym c.number_at.ensures ∙ c.in-End.is)) ∙ c.loop-count.invariant.2;
+      c.loop-count-test.true (sym c.number_at.ensures ∙ c.in-End.is)) ∙ c.loop-count.invariant.2;
 }
 
 pub returns : goal.returns
 returns c = record {
   prefix_len = (search rules, sym (length-take-le _ _ c.loop-count.invariant.0));
   whole_after = sym (store-full c.loop-count.numbers c.loop-count.count c.args.text.now c.loop-count.at
-          c.loop-count-test.false) ∙ c.loop-count.invariant.2;
+      c.loop-count-test.false) ∙ c.loop-count.invariant.2;
 }

@@ -18,14 +18,13 @@ returns-then-value-gt-MAX_NUMBER c =
     (rw (sym c.digit_of-digit.ensures.0) c.if-value-gt-MAX_NUMBER.true)) ∙ c.loop-i.invariant.1
 
 pub loop-i-preserved : goal.loop-i-preserved
-loop-i-preserved c =
-    (
-      c.if-value-gt-MAX_NUMBER.false,
-      rw c.digit_of-digit.ensures.0
-          (spell-digit c.args.text.now c.loop-i.i c.loop-i.value c.loop-i-test.true
-          (rw (sym c.digit_of-digit.ensures.0) c.if-digit-gt9.false)
-          (rw (sym c.digit_of-digit.ensures.0) c.if-value-gt-MAX_NUMBER.false) ∙ c.loop-i.invariant.1),
-    )
+loop-i-preserved c = (
+  c.if-value-gt-MAX_NUMBER.false,
+  rw c.digit_of-digit.ensures.0
+      (spell-digit c.args.text.now c.loop-i.i c.loop-i.value c.loop-i-test.true
+      (rw (sym c.digit_of-digit.ensures.0) c.if-digit-gt9.false)
+      (rw (sym c.digit_of-digit.ensures.0) c.if-value-gt-MAX_NUMBER.false) ∙ c.loop-i.invariant.1),
+)
 
 pub returns : goal.returns
 returns c =

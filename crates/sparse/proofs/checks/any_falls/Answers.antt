@@ -9,12 +9,11 @@ loop-c-init c =
     (omega arith, sym (some-zero (falls_at c.args.starts.now)))
 
 pub loop-c-preserved : goal.loop-c-preserved
-loop-c-preserved c =
-    (
-      omega arith,
-      c.or-found.ensures ∙ rw (c.get.ensures, c.get-in-loop-c.ensures, c.loop-c.invariant.1)
-          (sym (some_more (falls_at c.args.starts.now) c.loop-c.c)),
-    )
+loop-c-preserved c = (
+  omega arith,
+  c.or-found.ensures ∙ rw (c.get.ensures, c.get-in-loop-c.ensures, c.loop-c.invariant.1)
+      (sym (some_more (falls_at c.args.starts.now) c.loop-c.c)),
+)
 
 pub returns : goal.returns
 returns c =

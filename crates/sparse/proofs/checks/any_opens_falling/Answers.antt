@@ -36,17 +36,16 @@ overflow_add-c-in-loop-c c =
     omega (arith, c.requires.0.small)
 
 pub loop-c-preserved : goal.loop-c-preserved
-loop-c-preserved c =
-    (
-      omega arith,
-      c.or-found.ensures ∙ rw (
-        c.falls_into.ensures,
-        c.get-second.ensures,
-        c.get.ensures,
-        c.loop-c.invariant.1,
-      )
-          (sym (some_more (opens_falling c.args.starts.now c.args.rows.now) c.loop-c.c)),
-    )
+loop-c-preserved c = (
+  omega arith,
+  c.or-found.ensures ∙ rw (
+    c.falls_into.ensures,
+    c.get-second.ensures,
+    c.get.ensures,
+    c.loop-c.invariant.1,
+  )
+      (sym (some_more (opens_falling c.args.starts.now c.args.rows.now) c.loop-c.c)),
+)
 
 pub returns : goal.returns
 returns c =

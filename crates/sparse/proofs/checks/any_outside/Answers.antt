@@ -10,12 +10,11 @@ loop-k-init c =
     (omega arith, sym (some-zero (outside_at c.args.size c.args.rows.now)))
 
 pub loop-k-preserved : goal.loop-k-preserved
-loop-k-preserved c =
-    (
-      omega arith,
-      c.or-found.ensures ∙ rw (c.get.ensures, c.loop-k.invariant.1)
-          (sym (some_more (outside_at c.args.size c.args.rows.now) c.loop-k.k)),
-    )
+loop-k-preserved c = (
+  omega arith,
+  c.or-found.ensures ∙ rw (c.get.ensures, c.loop-k.invariant.1)
+      (sym (some_more (outside_at c.args.size c.args.rows.now) c.loop-k.k)),
+)
 
 pub returns : goal.returns
 returns c =

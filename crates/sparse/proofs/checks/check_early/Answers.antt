@@ -11,12 +11,11 @@ returns-in-Refused c =
     λ b e. sym (first-refused _ _ _ (sym c.check_size-large.ensures ∙ c.in-Refused.is))
 
 pub check_shape-shape-requires : goal.check_shape-shape-requires
-check_shape-shape-requires c =
-    (
-      size_small _ _ (sym c.check_size-large.ensures ∙ c.in_default.is),
-      entries_few _ _ (sym
-          c.check_size-large.ensures ∙ c.in_default.is),
-    )
+check_shape-shape-requires c = (
+  size_small _ _ (sym c.check_size-large.ensures ∙ c.in_default.is),
+  entries_few _ _ (sym
+      c.check_size-large.ensures ∙ c.in_default.is),
+)
 
 pub returns-in-Refused-shape : goal.returns-in-Refused-shape
 unfolding early

@@ -32,15 +32,15 @@ overflow_add-falls c =
     omega (
       arith,
       (let it : (let args = c.args in
-    c.loop-c.falls + c.flag-falls.result ≡ count (enters_falling args.starts.now args.rows.now) (c.loop-c.c + 1)) = let args = c.args in
-    rw (
-      c.flag-falls.ensures,
-      c.falls_into.ensures,
-      c.get.ensures,
-      c.get-in-loop-c.ensures,
-      c.loop-c.invariant.1,
-    )
-    (sym (count_next (enters_falling args.starts.now args.rows.now) c.loop-c.c)) in it),
+          c.loop-c.falls + c.flag-falls.result ≡ count (enters_falling args.starts.now args.rows.now) (c.loop-c.c + 1)) = let args = c.args in
+          rw (
+            c.flag-falls.ensures,
+            c.falls_into.ensures,
+            c.get.ensures,
+            c.get-in-loop-c.ensures,
+            c.loop-c.invariant.1,
+          )
+          (sym (count_next (enters_falling args.starts.now args.rows.now) c.loop-c.c)) in it),
       c.requires.small,
       count_few (enters_falling c.args.starts.now c.args.rows.now) (c.loop-c.c + 1),
     )
@@ -50,16 +50,19 @@ overflow_add-c-in-loop-c c =
     omega (arith, c.requires.small)
 
 pub loop-c-preserved : goal.loop-c-preserved
-loop-c-preserved c = (omega arith, (let it : (let args = c.args in
-    c.loop-c.falls + c.flag-falls.result ≡ count (enters_falling args.starts.now args.rows.now) (c.loop-c.c + 1)) = let args = c.args in
-    rw (
-      c.flag-falls.ensures,
-      c.falls_into.ensures,
-      c.get.ensures,
-      c.get-in-loop-c.ensures,
-      c.loop-c.invariant.1,
-    )
-    (sym (count_next (enters_falling args.starts.now args.rows.now) c.loop-c.c)) in it))
+loop-c-preserved c = (
+  omega arith,
+  (let it : (let args = c.args in
+      c.loop-c.falls + c.flag-falls.result ≡ count (enters_falling args.starts.now args.rows.now) (c.loop-c.c + 1)) = let args = c.args in
+      rw (
+        c.flag-falls.ensures,
+        c.falls_into.ensures,
+        c.get.ensures,
+        c.get-in-loop-c.ensures,
+        c.loop-c.invariant.1,
+      )
+      (sym (count_next (enters_falling args.starts.now args.rows.now) c.loop-c.c)) in it),
+)
 
 pub returns : goal.returns
 returns c =

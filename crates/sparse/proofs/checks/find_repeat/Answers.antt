@@ -17,7 +17,7 @@ returns c =
     let lo = c.args.lo in
     let many = c.mark-k.result - lo in
     let scan = c.mark-k.ensures.scanned in record {
-  scanned = scan;
-  marks_unchanged = c.unmark.ensures ∙ ap (marked rows 0 lo many) c.mark-k.ensures.marks_after
+      scanned = scan;
+      marks_unchanged = c.unmark.ensures ∙ ap (marked rows 0 lo many) c.mark-k.ensures.marks_after
           ∙ unmark-mark rows lo many c.args.marks.now (λ j a b. c.requires.unmarked j (omega (arith, scan.to, scan.from)));
-}
+    }

@@ -1,6 +1,5 @@
 use Prim.Native.Nat.{◌+◌, ◌<◌}
 use mathlib.Core.Path.{◌≡◌, sym, ◌∙◌, ap}
-use mathlib.Core.Bool.{false}
 use native.Mathlib.Omega.{arith}
 use borrow.Author.Rules.{rules}
 use lib.ListN.{length, get_or}
@@ -30,13 +29,13 @@ find_repeat-place-requires c =
     let shaped = c.requires.shaped.0 in
     let below = c.requires.shaped.1 in
     let i = c.loop-c.c in record {
-  lo_le_hi = (
+      lo_le_hi = (
         omega (arith, c.get-hi.ensures, c.get.ensures, shaped.rising i (omega arith)),
         omega (arith, c.get-hi.ensures, column_end shaped i (omega arith)),
         λ k l. omega (arith, below k l, c.requires.size_in_bounds.0, ap length c.loop-c.invariant.1),
       );
-  unmarked = λ k l. rw c.loop-c.invariant.1 (c.requires.size_in_bounds.1 _ (below k l));
-}
+      unmarked = λ k l. rw c.loop-c.invariant.1 (c.requires.size_in_bounds.1 _ (below k l));
+    }
 
 pub returns-then-place-hi : goal.returns-then-place-hi
 returns-then-place-hi c =
@@ -47,11 +46,11 @@ returns-then-place-hi c =
     let k = c.find_repeat-place.result in
     let scan = rw (c.get-hi.ensures, c.get.ensures) at c.find_repeat-place.ensures.scanned in
     let here : k < get_or starts (i + 1) 0 = omega (arith, c.get-hi.ensures, c.if-place-hi.true) in record {
-  value = sym (first_at _ _ k (omega (arith, column_end shaped i (omega arith)))
+      value = sym (first_at _ _ k (omega (arith, column_end shaped i (omega arith)))
           (none_scanned shaped i k (omega arith) scan c.loop-c.invariant.2)
           (one_scanned c.args.size starts rows i k (omega arith) scan here));
-  marks_unchanged = c.find_repeat-place.ensures.marks_unchanged ∙ c.loop-c.invariant.1;
-}
+      marks_unchanged = c.find_repeat-place.ensures.marks_unchanged ∙ c.loop-c.invariant.1;
+    }
 
 pub loop-c-preserved : goal.loop-c-preserved
 loop-c-preserved c =
@@ -74,6 +73,6 @@ returns c =
     let starts = c.args.starts.now in
     let rows = c.args.rows.now in
     let end : get_or starts c.loop-c.c 0 ≡ length rows = rw e c.requires.shaped.0.to_end in record {
-  value = sym (first-none _ _ (λ k l. c.loop-c.invariant.2 k (rw end l)));
-  marks_unchanged = c.loop-c.invariant.1;
-}
+      value = sym (first-none _ _ (λ k l. c.loop-c.invariant.2 k (rw end l)));
+      marks_unchanged = c.loop-c.invariant.1;
+    }

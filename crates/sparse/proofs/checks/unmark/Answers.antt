@@ -12,14 +12,13 @@ put_by_row-requires c =
     omega (arith, c.requires.2 c.loop-k.k (omega arith))
 
 pub loop-k-preserved : goal.loop-k-preserved
-loop-k-preserved c =
-    (
-      search rules,
-      c.put_by_row.ensures ∙ rw (c.row_at.ensures, c.loop-k.invariant.1)
-          (mark_more _ _ _ _ _ (omega arith)),
-      omega arith,
-      omega arith,
-    )
+loop-k-preserved c = (
+  search rules,
+  c.put_by_row.ensures ∙ rw (c.row_at.ensures, c.loop-k.invariant.1)
+      (mark_more _ _ _ _ _ (omega arith)),
+  omega arith,
+  omega arith,
+)
 
 pub returns : goal.returns
 returns c =

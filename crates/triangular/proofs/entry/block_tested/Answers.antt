@@ -19,25 +19,25 @@ pub check_repeats-repeats-requires : goal.check_repeats-repeats-requires
 check_repeats-repeats-requires c = record {
   shaped = c.requires.shaped;
   size_in_bounds = (
-        omega (arith, c.requires.roomy.0, c.clear.auto),
-        rw c.clear.ensures
-            (zero_below c.args.size c.args.size c.args.visited.now (omega arith)),
-      );
+    omega (arith, c.requires.roomy.0, c.clear.auto),
+    rw c.clear.ensures
+        (zero_below c.args.size c.args.size c.args.visited.now (omega arith)),
+  );
 }
 
 pub returns-in-Refused : goal.returns-in-Refused
 returns-in-Refused c = record {
   blockstarts_after = λ w. repeat_formed c.args.size c.args.starts.now c.args.rows.now w (outputs c.args.row2col.now c.args.hall.now c.args.blockcols.now c.args.blockstarts.now)
-          _ (sym c.check_repeats-repeats.ensures.value ∙ c.in-Refused.is);
+      _ (sym c.check_repeats-repeats.ensures.value ∙ c.in-Refused.is);
   sat_unchanged = cleared-first c.args.size (length c.args.rows.now) (work c.args.visited.now c.args.cheap.now c.args.finished.now c.args.col2row.now c.args.backstarts.now
-    c.args.backrows.now c.args.scol.now c.args.sat.now) _ _ c.clear.ensures c.check_repeats-repeats.ensures.marks_unchanged;
+      c.args.backrows.now c.args.scol.now c.args.sat.now) _ _ c.clear.ensures c.check_repeats-repeats.ensures.marks_unchanged;
 }
 
 pub block_valid-requires : goal.block_valid-requires
 block_valid-requires c =
     let once : repeated_row c.args.size
     c.args.starts.now c.args.rows.now ≡ checked.Passed = sym c.check_repeats-repeats.ensures.value ∙ c.in_default.is in record {
-  given = record {
+      given = record {
         valid = record {
           shaped = c.requires.shaped.0;
           below = c.requires.shaped.1;
@@ -48,9 +48,9 @@ block_valid-requires c =
           c.requires.roomy.1,
         );
       };
-  zero_below = rw (c.check_repeats-repeats.ensures.marks_unchanged, c.clear.ensures) (zero_below c.args.size
+      zero_below = rw (c.check_repeats-repeats.ensures.marks_unchanged, c.clear.ensures) (zero_below c.args.size
           c.args.size c.args.visited.now (omega arith));
-}
+    }
 
 pub shape_of-visited : goal.shape_of-visited
 shape_of-visited c =
@@ -65,9 +65,9 @@ pub returns : goal.returns
 returns c =
     let once : repeated_row c.args.size
     c.args.starts.now c.args.rows.now ≡ checked.Passed = sym c.check_repeats-repeats.ensures.value ∙ c.in_default.is in record {
-  blockstarts_after = λ w. c.block_valid.ensures.blockstarts_after w ∙ verdict_formed c.args.size c.args.starts.now
+      blockstarts_after = λ w. c.block_valid.ensures.blockstarts_after w ∙ verdict_formed c.args.size c.args.starts.now
           c.args.rows.now w (outputs c.args.row2col.now c.args.hall.now c.args.blockcols.now c.args.blockstarts.now) once;
-  sat_unchanged = c.block_valid.ensures.sat_unchanged
+      sat_unchanged = c.block_valid.ensures.sat_unchanged
           ∙ cleared-first c.args.size (length c.args.rows.now) (work c.args.visited.now c.args.cheap.now c.args.finished.now c.args.col2row.now c.args.backstarts.now
-    c.args.backrows.now c.args.scol.now c.args.sat.now) _ _ c.clear.ensures c.check_repeats-repeats.ensures.marks_unchanged;
-}
+          c.args.backrows.now c.args.scol.now c.args.sat.now) _ _ c.clear.ensures c.check_repeats-repeats.ensures.marks_unchanged;
+    }

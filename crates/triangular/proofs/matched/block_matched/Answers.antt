@@ -9,14 +9,14 @@ pub finish_columns-requires : goal.finish_columns-requires
 finish_columns-requires c = record {
   shaped = c.requires.shaped;
   pass_ready = first_ready c.args.visited.now c.requires.reversible.0 c.clear.ensures (omega (
+    arith,
+    c.requires.roomy.0,
+    c.clear.auto,
+  ))
+      (omega (arith, c.requires.roomy.1.1.1.1.1.1.0)) (omega (
         arith,
-        c.requires.roomy.0,
-        c.clear.auto,
-      ))
-          (omega (arith, c.requires.roomy.1.1.1.1.1.1.0)) (omega (
-            arith,
-            c.requires.roomy.1.1.1.1.1.1.1.0,
-          )) (omega (arith, c.requires.size_in_bounds.0)) (omega (arith, c.requires.roomy.1.1.0));
+        c.requires.roomy.1.1.1.1.1.1.1.0,
+      )) (omega (arith, c.requires.size_in_bounds.0)) (omega (arith, c.requires.roomy.1.1.0));
 }
 
 pub invert_matching-requires : goal.invert_matching-requires
@@ -30,58 +30,58 @@ reverse_graph-requires c = record {
   shaped = c.requires.shaped;
   reversible = c.requires.reversible.0;
   inverse = (
-            (inverse-filled _ c.args.col2row.now c.requires.reversible.0.permutes c.invert_matching.ensures),
-            omega (
-              arith,
-              c.requires.roomy.1.1.1.0,
-              c.invert_matching.auto,
-            ),
-          );
+    (inverse-filled _ c.args.col2row.now c.requires.reversible.0.permutes c.invert_matching.ensures),
+    omega (
+      arith,
+      c.requires.roomy.1.1.1.0,
+      c.invert_matching.auto,
+    ),
+  );
   reverse_room = reverse_room c.requires.reversible.1 (omega (arith, c.requires.roomy.1.1.1.1.0)) (omega (
-            arith,
-            c.requires.roomy.1.1.1.1.1.0,
-          ));
+    arith,
+    c.requires.roomy.1.1.1.1.1.0,
+  ));
 }
 
 pub cut_matched-requires : goal.cut_matched-requires
 cut_matched-requires c = record {
   size_in_bounds = (
-        omega (arith, c.requires.roomy.1.1.1.1.0, c.reverse_graph.auto),
-        omega (
-          arith,
-          c.requires.roomy.1.1.1.1.1.0,
-          c.reverse_graph.auto,
-          c.reverse_graph.ensures.to_end,
-        ),
-        second_shaped c.requires.shaped.small ((reverse_room c.requires.reversible.1 (omega (
-          arith,
-          c.requires.roomy.1.1.1.1.0,
-          c.reverse_graph.auto,
-        )) (omega (
-          arith,
-          c.requires.roomy.1.1.1.1.1.0,
-          c.reverse_graph.auto,
-        )))) c.reverse_graph.ensures,
-      );
+    omega (arith, c.requires.roomy.1.1.1.1.0, c.reverse_graph.auto),
+    omega (
+      arith,
+      c.requires.roomy.1.1.1.1.1.0,
+      c.reverse_graph.auto,
+      c.reverse_graph.ensures.to_end,
+    ),
+    second_shaped c.requires.shaped.small ((reverse_room c.requires.reversible.1 (omega (
+      arith,
+      c.requires.roomy.1.1.1.1.0,
+      c.reverse_graph.auto,
+    )) (omega (
+      arith,
+      c.requires.roomy.1.1.1.1.1.0,
+      c.reverse_graph.auto,
+    )))) c.reverse_graph.ensures,
+  );
   pass_ready = second_ready c.requires.shaped.small c.requires.reversible.0 ((inverse-filled _ c.args.col2row.now
-            c.requires.reversible.0.permutes c.invert_matching.ensures)) ((reverse_room c.requires.reversible.1 (omega (arith, c.requires.roomy.1.1.1.1.0, c.reverse_graph.auto)) (omega
-            (arith, c.requires.roomy.1.1.1.1.1.0, c.reverse_graph.auto))))
-            c.reverse_graph.ensures c.finish_columns.ensures.finished (omega (
-              arith,
-              c.requires.roomy.0,
-              c.clear.auto,
-              c.finish_columns.auto,
-            ))
-            (omega (arith, c.requires.roomy.1.1.1.1.1.1.0, c.finish_columns.auto)) (omega
-            (arith, c.requires.roomy.1.1.1.1.1.1.1.0, c.finish_columns.auto)) (omega
-            (arith, c.requires.size_in_bounds.0, c.finish_columns.auto))
-            (omega (arith, c.requires.roomy.1.0));
+      c.requires.reversible.0.permutes c.invert_matching.ensures)) ((reverse_room c.requires.reversible.1 (omega (arith, c.requires.roomy.1.1.1.1.0, c.reverse_graph.auto)) (omega
+      (arith, c.requires.roomy.1.1.1.1.1.0, c.reverse_graph.auto))))
+      c.reverse_graph.ensures c.finish_columns.ensures.finished (omega (
+        arith,
+        c.requires.roomy.0,
+        c.clear.auto,
+        c.finish_columns.auto,
+      ))
+      (omega (arith, c.requires.roomy.1.1.1.1.1.1.0, c.finish_columns.auto)) (omega
+      (arith, c.requires.roomy.1.1.1.1.1.1.1.0, c.finish_columns.auto)) (omega
+      (arith, c.requires.size_in_bounds.0, c.finish_columns.auto))
+      (omega (arith, c.requires.roomy.1.0));
   cut_ready = finished_ready c.requires.reversible.0.inside c.requires.reversible.0.permutes.below c.finish_columns.ensures.finished (omega (
-          arith,
-          c.requires.roomy.1.1.0,
-          c.finish_columns.auto,
-        ))
-            (omega (arith, c.requires.size_in_bounds.1));
+    arith,
+    c.requires.roomy.1.1.0,
+    c.finish_columns.auto,
+  ))
+      (omega (arith, c.requires.size_in_bounds.1));
 }
 
 pub shape_of-visited : goal.shape_of-visited
@@ -112,12 +112,12 @@ shape_of-blockcols c =
 pub returns : goal.returns
 returns c = record {
   holds_blocks = matched-holds c.requires.shaped.small c.requires.reversible.0 ((inverse-filled _ c.args.col2row.now
-          c.requires.reversible.0.permutes c.invert_matching.ensures)) ((reverse_room c.requires.reversible.1 (omega (arith, c.requires.roomy.1.1.1.1.0, c.reverse_graph.auto)) (omega (
-            arith,
-            c.requires.roomy.1.1.1.1.1.0,
-            c.reverse_graph.auto,
-          )))) c.reverse_graph.ensures c.finish_columns.ensures.finished c.finish_columns.ensures.same_from.entered_beyond c.cut_matched.ensures.holds_blocks;
+      c.requires.reversible.0.permutes c.invert_matching.ensures)) ((reverse_room c.requires.reversible.1 (omega (arith, c.requires.roomy.1.1.1.1.0, c.reverse_graph.auto)) (omega (
+        arith,
+        c.requires.roomy.1.1.1.1.1.0,
+        c.reverse_graph.auto,
+      )))) c.reverse_graph.ensures c.finish_columns.ensures.finished c.finish_columns.ensures.same_from.entered_beyond c.cut_matched.ensures.holds_blocks;
   same_work = matched_same c.clear.ensures c.finish_columns.ensures.same_from
-          c.invert_matching.ensures c.reverse_graph.ensures
-          c.cut_matched.ensures.same_from;
+      c.invert_matching.ensures c.reverse_graph.ensures
+      c.cut_matched.ensures.same_from;
 }
