@@ -71,7 +71,7 @@ fn match_columns(
     ensures ends_at { EndsAt size visited.new row2col.new result
         (matching size (column starts.now rows.now)) }
     ensures same_beyond { SameBeyond size row2col.old row2col.new }
-    ensures same_beyond_2 { SameBeyond size visited.old visited.new × SameBeyond size cheap.old cheap.new
+    ensures work_beyond { SameBeyond size visited.old visited.new × SameBeyond size cheap.old cheap.new
         × SameBeyond size scol.old scol.new × SameBeyond size sat.old sat.new }
 {
     let none = &rows[0..0];

@@ -184,7 +184,7 @@ pub fn check_edit(
 ) -> Checked
     requires shaped { Shaped size starts.now rows.now × RowsBelow rows.now size }
     requires size_in_bounds { (size ≤ length visited.old) × ZeroBelow size visited.old }
-    requires size_in_bounds_2 { (size ≤ length row2col.now) × (size ≤ length col2row.old) }
+    requires matching_in_bounds { (size ≤ length row2col.now) × (size ≤ length col2row.old) }
     ensures value { result ≡ first_refusal (late size starts.now rows.now edited.0 replacement.now
         row2col.now) }
     ensures same_beyond { SameBeyond size visited.old visited.new

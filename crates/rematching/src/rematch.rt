@@ -35,7 +35,7 @@ pub fn rematch<'a>(
         (take size row2col.old) edited.0) }
     ensures row2col_unchanged { result < size → row2col.new ≡ row2col.old }
     ensures same_beyond { SameBeyond size row2col.old row2col.new }
-    ensures same_beyond_2 { SameBeyond size visited.old visited.new × SameBeyond size cheap.old cheap.new
+    ensures work_beyond { SameBeyond size visited.old visited.new × SameBeyond size cheap.old cheap.new
         × SameBeyond size scol.old scol.new × SameBeyond size sat.old sat.new }
 {
     let c = edited.0;

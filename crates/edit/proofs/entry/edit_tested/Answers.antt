@@ -26,7 +26,7 @@ check_edit-checked-requires c = record {
     rw c.clear.ensures
         (zero_below c.args.size c.args.size c.args.visited.now (omega arith)),
   );
-  size_in_bounds_2 = (c.requires.roomy.1.1.1.1.1.1.1.1.0, c.requires.roomy.1.1.1.0);
+  matching_in_bounds = (c.requires.roomy.1.1.1.1.1.1.1.1.0, c.requires.roomy.1.1.1.0);
 }
 
 pub returns-in-Refused : goal.returns-in-Refused

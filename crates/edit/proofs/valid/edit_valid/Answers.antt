@@ -28,11 +28,11 @@ refuse_edit-requires c =
       kept = c.rematch-end.ensures.row2col_unchanged;
       matching = c.rematch-end.ensures.same_beyond;
       visited = cleared_beyond c.args.size c.args.visited.now _ _ c.clear.ensures
-          c.rematch-end.ensures.same_beyond_2.0;
+          c.rematch-end.ensures.work_beyond.0;
       cheap = cleared_beyond c.args.size c.args.cheap.now _ _ c.clear-2.ensures
-          c.rematch-end.ensures.same_beyond_2.1;
-      cols = c.rematch-end.ensures.same_beyond_2.2;
-      places = c.rematch-end.ensures.same_beyond_2.3;
+          c.rematch-end.ensures.work_beyond.1;
+      cols = c.rematch-end.ensures.work_beyond.2;
+      places = c.rematch-end.ensures.work_beyond.3;
       matching_length = c.rematch-end.auto.row2col;
       visited_length = omega (arith, c.rematch-end.auto.visited, c.clear.auto.s);
       cheap_length = omega (arith, c.rematch-end.auto.cheap, c.clear-2.auto.s);
@@ -64,11 +64,11 @@ shape_of-visited-then-end-size c =
       kept = c.rematch-end.ensures.row2col_unchanged;
       matching = c.rematch-end.ensures.same_beyond;
       visited = cleared_beyond c.args.size c.args.visited.now _ _ c.clear.ensures
-          c.rematch-end.ensures.same_beyond_2.0;
+          c.rematch-end.ensures.work_beyond.0;
       cheap = cleared_beyond c.args.size c.args.cheap.now _ _ c.clear-2.ensures
-          c.rematch-end.ensures.same_beyond_2.1;
-      cols = c.rematch-end.ensures.same_beyond_2.2;
-      places = c.rematch-end.ensures.same_beyond_2.3;
+          c.rematch-end.ensures.work_beyond.1;
+      cols = c.rematch-end.ensures.work_beyond.2;
+      places = c.rematch-end.ensures.work_beyond.3;
       matching_length = c.rematch-end.auto.row2col;
       visited_length = omega (arith, c.rematch-end.auto.visited, c.clear.auto.s);
       cheap_length = omega (arith, c.rematch-end.auto.cheap, c.clear-2.auto.s);
@@ -90,11 +90,11 @@ returns-then-end-size c =
       kept = c.rematch-end.ensures.row2col_unchanged;
       matching = c.rematch-end.ensures.same_beyond;
       visited = cleared_beyond c.args.size c.args.visited.now _ _ c.clear.ensures
-          c.rematch-end.ensures.same_beyond_2.0;
+          c.rematch-end.ensures.work_beyond.0;
       cheap = cleared_beyond c.args.size c.args.cheap.now _ _ c.clear-2.ensures
-          c.rematch-end.ensures.same_beyond_2.1;
-      cols = c.rematch-end.ensures.same_beyond_2.2;
-      places = c.rematch-end.ensures.same_beyond_2.3;
+          c.rematch-end.ensures.work_beyond.1;
+      cols = c.rematch-end.ensures.work_beyond.2;
+      places = c.rematch-end.ensures.work_beyond.3;
       matching_length = c.rematch-end.auto.row2col;
       visited_length = omega (arith, c.rematch-end.auto.visited, c.clear.auto.s);
       cheap_length = omega (arith, c.rematch-end.auto.cheap, c.clear-2.auto.s);
@@ -120,11 +120,11 @@ clear-requires-3 c =
       kept = c.rematch-end.ensures.row2col_unchanged;
       matching = c.rematch-end.ensures.same_beyond;
       visited = cleared_beyond c.args.size c.args.visited.now _ _ c.clear.ensures
-          c.rematch-end.ensures.same_beyond_2.0;
+          c.rematch-end.ensures.work_beyond.0;
       cheap = cleared_beyond c.args.size c.args.cheap.now _ _ c.clear-2.ensures
-          c.rematch-end.ensures.same_beyond_2.1;
-      cols = c.rematch-end.ensures.same_beyond_2.2;
-      places = c.rematch-end.ensures.same_beyond_2.3;
+          c.rematch-end.ensures.work_beyond.1;
+      cols = c.rematch-end.ensures.work_beyond.2;
+      places = c.rematch-end.ensures.work_beyond.3;
       matching_length = c.rematch-end.auto.row2col;
       visited_length = omega (arith, c.rematch-end.auto.visited, c.clear.auto.s);
       cheap_length = omega (arith, c.rematch-end.auto.cheap, c.clear-2.auto.s);
@@ -146,11 +146,11 @@ block_matched-count-requires c =
       kept = c.rematch-end.ensures.row2col_unchanged;
       matching = c.rematch-end.ensures.same_beyond;
       visited = cleared_beyond c.args.size c.args.visited.now _ _ c.clear.ensures
-          c.rematch-end.ensures.same_beyond_2.0;
+          c.rematch-end.ensures.work_beyond.0;
       cheap = cleared_beyond c.args.size c.args.cheap.now _ _ c.clear-2.ensures
-          c.rematch-end.ensures.same_beyond_2.1;
-      cols = c.rematch-end.ensures.same_beyond_2.2;
-      places = c.rematch-end.ensures.same_beyond_2.3;
+          c.rematch-end.ensures.work_beyond.1;
+      cols = c.rematch-end.ensures.work_beyond.2;
+      places = c.rematch-end.ensures.work_beyond.3;
       matching_length = c.rematch-end.auto.row2col;
       visited_length = omega (arith, c.rematch-end.auto.visited, c.clear.auto.s);
       cheap_length = omega (arith, c.rematch-end.auto.cheap, c.clear-2.auto.s);
@@ -182,11 +182,11 @@ shape_of-visited c =
       kept = c.rematch-end.ensures.row2col_unchanged;
       matching = c.rematch-end.ensures.same_beyond;
       visited = cleared_beyond c.args.size c.args.visited.now _ _ c.clear.ensures
-          c.rematch-end.ensures.same_beyond_2.0;
+          c.rematch-end.ensures.work_beyond.0;
       cheap = cleared_beyond c.args.size c.args.cheap.now _ _ c.clear-2.ensures
-          c.rematch-end.ensures.same_beyond_2.1;
-      cols = c.rematch-end.ensures.same_beyond_2.2;
-      places = c.rematch-end.ensures.same_beyond_2.3;
+          c.rematch-end.ensures.work_beyond.1;
+      cols = c.rematch-end.ensures.work_beyond.2;
+      places = c.rematch-end.ensures.work_beyond.3;
       matching_length = c.rematch-end.auto.row2col;
       visited_length = omega (arith, c.rematch-end.auto.visited, c.clear.auto.s);
       cheap_length = omega (arith, c.rematch-end.auto.cheap, c.clear-2.auto.s);
@@ -208,11 +208,11 @@ shape_of-cheap c =
       kept = c.rematch-end.ensures.row2col_unchanged;
       matching = c.rematch-end.ensures.same_beyond;
       visited = cleared_beyond c.args.size c.args.visited.now _ _ c.clear.ensures
-          c.rematch-end.ensures.same_beyond_2.0;
+          c.rematch-end.ensures.work_beyond.0;
       cheap = cleared_beyond c.args.size c.args.cheap.now _ _ c.clear-2.ensures
-          c.rematch-end.ensures.same_beyond_2.1;
-      cols = c.rematch-end.ensures.same_beyond_2.2;
-      places = c.rematch-end.ensures.same_beyond_2.3;
+          c.rematch-end.ensures.work_beyond.1;
+      cols = c.rematch-end.ensures.work_beyond.2;
+      places = c.rematch-end.ensures.work_beyond.3;
       matching_length = c.rematch-end.auto.row2col;
       visited_length = omega (arith, c.rematch-end.auto.visited, c.clear.auto.s);
       cheap_length = omega (arith, c.rematch-end.auto.cheap, c.clear-2.auto.s);
@@ -234,11 +234,11 @@ shape_of-scol c =
       kept = c.rematch-end.ensures.row2col_unchanged;
       matching = c.rematch-end.ensures.same_beyond;
       visited = cleared_beyond c.args.size c.args.visited.now _ _ c.clear.ensures
-          c.rematch-end.ensures.same_beyond_2.0;
+          c.rematch-end.ensures.work_beyond.0;
       cheap = cleared_beyond c.args.size c.args.cheap.now _ _ c.clear-2.ensures
-          c.rematch-end.ensures.same_beyond_2.1;
-      cols = c.rematch-end.ensures.same_beyond_2.2;
-      places = c.rematch-end.ensures.same_beyond_2.3;
+          c.rematch-end.ensures.work_beyond.1;
+      cols = c.rematch-end.ensures.work_beyond.2;
+      places = c.rematch-end.ensures.work_beyond.3;
       matching_length = c.rematch-end.auto.row2col;
       visited_length = omega (arith, c.rematch-end.auto.visited, c.clear.auto.s);
       cheap_length = omega (arith, c.rematch-end.auto.cheap, c.clear-2.auto.s);
@@ -264,11 +264,11 @@ shape_of-sat c =
       kept = c.rematch-end.ensures.row2col_unchanged;
       matching = c.rematch-end.ensures.same_beyond;
       visited = cleared_beyond c.args.size c.args.visited.now _ _ c.clear.ensures
-          c.rematch-end.ensures.same_beyond_2.0;
+          c.rematch-end.ensures.work_beyond.0;
       cheap = cleared_beyond c.args.size c.args.cheap.now _ _ c.clear-2.ensures
-          c.rematch-end.ensures.same_beyond_2.1;
-      cols = c.rematch-end.ensures.same_beyond_2.2;
-      places = c.rematch-end.ensures.same_beyond_2.3;
+          c.rematch-end.ensures.work_beyond.1;
+      cols = c.rematch-end.ensures.work_beyond.2;
+      places = c.rematch-end.ensures.work_beyond.3;
       matching_length = c.rematch-end.auto.row2col;
       visited_length = omega (arith, c.rematch-end.auto.visited, c.clear.auto.s);
       cheap_length = omega (arith, c.rematch-end.auto.cheap, c.clear-2.auto.s);
@@ -294,11 +294,11 @@ shape_of-row2col c =
       kept = c.rematch-end.ensures.row2col_unchanged;
       matching = c.rematch-end.ensures.same_beyond;
       visited = cleared_beyond c.args.size c.args.visited.now _ _ c.clear.ensures
-          c.rematch-end.ensures.same_beyond_2.0;
+          c.rematch-end.ensures.work_beyond.0;
       cheap = cleared_beyond c.args.size c.args.cheap.now _ _ c.clear-2.ensures
-          c.rematch-end.ensures.same_beyond_2.1;
-      cols = c.rematch-end.ensures.same_beyond_2.2;
-      places = c.rematch-end.ensures.same_beyond_2.3;
+          c.rematch-end.ensures.work_beyond.1;
+      cols = c.rematch-end.ensures.work_beyond.2;
+      places = c.rematch-end.ensures.work_beyond.3;
       matching_length = c.rematch-end.auto.row2col;
       visited_length = omega (arith, c.rematch-end.auto.visited, c.clear.auto.s);
       cheap_length = omega (arith, c.rematch-end.auto.cheap, c.clear-2.auto.s);
@@ -324,11 +324,11 @@ returns c =
       kept = c.rematch-end.ensures.row2col_unchanged;
       matching = c.rematch-end.ensures.same_beyond;
       visited = cleared_beyond c.args.size c.args.visited.now _ _ c.clear.ensures
-          c.rematch-end.ensures.same_beyond_2.0;
+          c.rematch-end.ensures.work_beyond.0;
       cheap = cleared_beyond c.args.size c.args.cheap.now _ _ c.clear-2.ensures
-          c.rematch-end.ensures.same_beyond_2.1;
-      cols = c.rematch-end.ensures.same_beyond_2.2;
-      places = c.rematch-end.ensures.same_beyond_2.3;
+          c.rematch-end.ensures.work_beyond.1;
+      cols = c.rematch-end.ensures.work_beyond.2;
+      places = c.rematch-end.ensures.work_beyond.3;
       matching_length = c.rematch-end.auto.row2col;
       visited_length = omega (arith, c.rematch-end.auto.visited, c.clear.auto.s);
       cheap_length = omega (arith, c.rematch-end.auto.cheap, c.clear-2.auto.s);

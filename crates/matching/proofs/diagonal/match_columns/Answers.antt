@@ -35,7 +35,7 @@ returns-then-not-search c =
           _ _ _ _
           _ _ _ _ _ _ _ _ _) c.if-not-search.true made));
       same_beyond = (slices_beyond (made_slices c.loop-c.invariant c.loop-c-test.true made)).0;
-      same_beyond_2 = (slices_beyond (made_slices c.loop-c.invariant c.loop-c-test.true made)).1;
+      work_beyond = (slices_beyond (made_slices c.loop-c.invariant c.loop-c-test.true made)).1;
     }
 
 pub loop-c-preserved : goal.loop-c-preserved
@@ -58,5 +58,5 @@ pub returns : goal.returns
 returns c = record {
   ends_at = ends_unedited _ _ _ c.requires.shaped.0 (going_end c.loop-c.invariant c.loop-c-test.false);
   same_beyond = (slices_beyond c.loop-c.invariant.slices).0;
-  same_beyond_2 = (slices_beyond c.loop-c.invariant.slices).1;
+  work_beyond = (slices_beyond c.loop-c.invariant.slices).1;
 }

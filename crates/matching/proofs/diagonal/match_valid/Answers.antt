@@ -35,10 +35,10 @@ returns c = record {
       ap (drop
       c.args.size) (sym e)) (sym f);
   same_beyond = (
-    c.match_columns-end.ensures.same_beyond_2.0,
-    c.match_columns-end.ensures.same_beyond_2.1 ∙ filled_beyond
+    c.match_columns-end.ensures.work_beyond.0,
+    c.match_columns-end.ensures.work_beyond.1 ∙ filled_beyond
         c.args.size 0 c.args.cheap.now c.clear.ensures,
-    c.match_columns-end.ensures.same_beyond_2.2,
-    c.match_columns-end.ensures.same_beyond_2.3,
+    c.match_columns-end.ensures.work_beyond.2,
+    c.match_columns-end.ensures.work_beyond.3,
   );
 }

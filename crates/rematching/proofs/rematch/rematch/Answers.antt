@@ -26,7 +26,7 @@ returns-then-search c =
       ends_at = X.ends;
       row2col_unchanged = X.kept;
       same_beyond = X.matching;
-      same_beyond_2 = (X.visited, X.cheap, stack.0, stack.1);
+      work_beyond = (X.visited, X.cheap, stack.0, stack.1);
     }
 
 pub put_by_row-requires-2 : goal.put_by_row-requires-2
@@ -43,5 +43,5 @@ returns c =
       ends_at = X.ends;
       row2col_unchanged = X.kept;
       same_beyond = X.matching;
-      same_beyond_2 = (X.visited, X.cheap, stack.0, stack.1);
+      work_beyond = (X.visited, X.cheap, stack.0, stack.1);
     }
