@@ -6,13 +6,13 @@ use std::process::{exit, Command};
 const ARCHIVES: [&str; 2] = ["exports", "edit_exports"];
 
 fn main() {
-    let folder = Path::new(env!("CARGO_MANIFEST_DIR")).join("../target/staticlib");
-    println!("cargo:rustc-link-search=native={}", folder.display());
     for name in ARCHIVES {
+        let folder = Path::new(env!("CARGO_MANIFEST_DIR")).join(format!("../crates/{name}/out"));
         let archive = folder.join(format!("lib{name}.a"));
+        println!("cargo:rustc-link-search=native={}", folder.display());
         println!("cargo:rerun-if-changed={}", archive.display());
         if !archive.is_file() {
-            eprintln!("no archive at {}: run `rt staticlib {name}` at the project root first", archive.display());
+            eprintln!("no archive at {}: run `rt lib` in crates/{name} first", archive.display());
             exit(1);
         }
         println!("cargo:rustc-link-lib=static={name}");
