@@ -1,7 +1,8 @@
 #!/usr/bin/env python3
 """Spells the repository's own definitions and lemmas as today's Rattle does, by the table port_names.txt: old name, new name.
 
-usage: python3 tools/port_names.py     once, at the top of the repository, on what the kit's port.py leaves
+usage: python3 tools/port_names.py                       once, at the top of the repository, on what the kit's port.py leaves
+       python3 tools/port_names.py port_names_later.txt  the names that the first table left, once, on proofs of today's form
 
 Words are in snake case and types in camel case; a dash stays where it joins two names. Whole words alone are replaced, in specs/, proofs/,
 contracts and must-fail edits; the code of src/ has none of the old names. In edits the kit's own respellings are made too.
@@ -9,9 +10,11 @@ contracts and must-fail edits; the code of src/ has none of the old names. In ed
 
 import os
 import re
+import sys
 
 HERE = os.path.dirname(os.path.realpath(__file__))
-WORD = re.compile(r"[^\s(){}\[\]:;,.«»\"`]+")
+# A name behind `c.` is the check's own.
+WORD = re.compile(r"(?<!\bc\.)(?<![^\s(){}\[\]:;,.«»\"`])[^\s(){}\[\]:;,.«»\"`]+")
 
 # Names that the kit's port.py respelled, since a library has the same spelling: in edits they are still the old ones.
 KIT = "add-at countOf emptyAt inRow markOf numberAt numberOf partOf placeOf rowsFrom storedBlock"
@@ -22,7 +25,7 @@ def snake(name):
 
 
 def table():
-    with open(os.path.join(HERE, "port_names.txt"), encoding="utf-8") as f:
+    with open(os.path.join(HERE, (sys.argv[1:] or ["port_names.txt"])[0]), encoding="utf-8") as f:
         return dict(line.split() for line in f)
 
 

@@ -15,7 +15,7 @@ use Rattle.matching.proofs.Arms.{Hand, ScanReady}
 use Rattle.blocks.specs.Parts.{Leaves}
 use Rattle.blocks.proofs.Stack.{Goal}
 use Rattle.blocks.proofs.Walking.{Lists, Walk, Scanning, few_entered, entered_room, at_new, at_old}
-use Rattle.blocks.proofs.Turns.{turn-enter, turn-again, turn_on, child_below, open_new, on_sum}
+use Rattle.blocks.proofs.Turns.{turn_enter, turn_again, turn_on, child_below, open_new, on_sum}
 
 -- ---- the step on top
 
@@ -57,7 +57,7 @@ arm_enter {g} {mark} {S₀} {S} {e} {f} {depth} {v' = v'} W l H ne ev ee =
       places = S.places;
       entered = set S.entered e (get_or S.cols (depth - 1) 0);
       finished = S.finished;
-    }) x f (depth - 1) 0) one (turn-enter (at_top W l) (rw H.column at ne)))
+    }) x f (depth - 1) 0) one (turn_enter (at_top W l) (rw H.column at ne)))
 
 -- a child of the column was finished
 pub arm_again : {g : Goal} {mark : ℕ} {S₀ S : Lists} {e f depth : ℕ} {c : Col} {rs : List Row} {from : ℕ}
@@ -65,7 +65,7 @@ pub arm_again : {g : Goal} {mark : ℕ} {S₀ S : Lists} {e f depth : ℕ} {c : 
     → from ≡ get_or S.places (depth - 1) 0 + 1 → Scanning g mark S₀ S e f (depth - 1) from
 arm_again {g} {mark} {S₀} {S} {e} {f} {depth} {from = from} W l H z y =
     let one : suc (get_or S.places (depth - 1) 0) ≡ from = omega arith in
-    subst (λ p. Scanning g mark S₀ S e f (depth - 1) p) one (turn-again (at_top W l) (rw H.column at z))
+    subst (λ p. Scanning g mark S₀ S e f (depth - 1) p) one (turn_again (at_top W l) (rw H.column at z))
 
 -- the rows are walked over, and the next turn starts
 pub arm_on : {g : Goal} {mark : ℕ} {S₀ S : Lists} {e f k from : ℕ} {c : Col} {rs : List Row} {cs' ps' fs' : List ℕ} {d f' : ℕ}

@@ -16,7 +16,7 @@ use Rattle.graph.proofs.Lists.{elem_mem, keep_only, range_is}
 use Rattle.sparse.specs.Limits.{max_size, max_entries}
 use Rattle.sparse.specs.Matrix.{column, column_or, Shaped}
 use Rattle.sparse.proofs.Matrix.{column_end, column_beyond}
-use Rattle.matching.proofs.Ready.{short-or}
+use Rattle.matching.proofs.Ready.{short_or}
 use Rattle.blocks.specs.Reverse.{entries, Reversible, ReverseRoom, Reversed}
 use Rattle.blocks.proofs.Totals.{targets_low}
 
@@ -131,4 +131,4 @@ back_inside {n} {col} {m} {inv} e none small R I room T = record {
 pub back_short : {n : ℕ} {col : Pattern} {m : List Col} {inv : List Row} {starts₀ rows₀ starts rows : List ℕ} (e : Col) → n ≤ max_size
     → ReverseRoom n col starts rows → Reversed n col m inv starts₀ rows₀ starts rows
     → (d : Col) → length (column_or (take (n + 1) starts) (take (entries n col) rows) e [] d) ≤ max_entries
-back_short e small room T = short-or e [] (back_shaped small room T) (omega arith)
+back_short e small room T = short_or e [] (back_shaped small room T) (omega arith)

@@ -18,13 +18,13 @@ use Rattle.graph.proofs.Walks.{Walks, enters_listed, enters_in_front, stays_ente
 use Rattle.sparse.specs.Buffers.{zeroed}
 use Rattle.sparse.specs.Limits.{none, max_size}
 use Rattle.sparse.specs.Matrix.{column, column_or, Shaped}
-use Rattle.sparse.proofs.Buffers.{drop-zeroed, front-filled}
+use Rattle.sparse.proofs.Buffers.{drop-zeroed, front_filled}
 use Rattle.matching.proofs.Columns.{unedited}
 use Rattle.blocks.specs.Walk.{last_first, walked}
 use Rattle.blocks.specs.Cut.{second_pass, PassReady, CutReady, HoldsBlocks}
 use Rattle.blocks.specs.Form.{starts_from, block_starts}
 use Rattle.blocks.specs.Parts.{BlockEnds}
-use Rattle.blocks.proofs.Stored.{length-starts}
+use Rattle.blocks.proofs.Stored.{length_starts}
 use Rattle.blocks.proofs.Held.{length_last_first, stamped_few}
 use Rattle.blocks.proofs.Passes.{visit_old, Pass, pass_start, Turn, pass_more, pass_all, rule_walks}
 
@@ -81,11 +81,11 @@ unfolding cut
 cut_old kids n s c cs i = rw (mem_elem c s i)
 
 -- another starts a block: the columns that were put in front of those entered
-cut-new : (kids : Col → List Col) (n : ℕ) (s : List Col) (c : Col) (cs t a : List Col) → ¬ Mem c s
+cut_new : (kids : Col → List Col) (n : ℕ) (s : List Col) (c : Col) (cs t a : List Col) → ¬ Mem c s
     → (visit kids n c (record { entered = s; finished = [] })).entered ≡ t → t ≡ a ++ s
     → cut kids n s (c ∷ cs) ≡ reverse a ∷ cut kids n t cs
 unfolding cut
-cut-new kids n s c cs t a new e f =
+cut_new kids n s c cs t a new e f =
     let front : take (length t - length s) t ≡ a =
     rw f (take_at a s (length (a ++ s) - length s) (omega (arith, length-append a s))) in
     rw (elem_not c s new, e, front) refl
@@ -109,10 +109,10 @@ starts_snoc k (x ∷ bs) b =
     (starts_snoc (k + length x) bs b ∙ ap (λ (j : ℕ). starts_from (k + length x) bs ++ (j ∷ [])) e)
 
 -- at most n blocks have n + 1 numbers
-length-block-starts : (n : ℕ) (bs : List (List ℕ)) → length bs ≤ n → length (block_starts n bs) ≡ n + 1
-length-block-starts n bs l =
+length-block_starts : (n : ℕ) (bs : List (List ℕ)) → length bs ≤ n → length (block_starts n bs) ≡ n + 1
+length-block_starts n bs l =
     length-append (starts_from 0 bs) (replicate (n - length bs) 0)
-    ∙ omega (arith, length-starts 0 bs, length-replicate {A = ℕ} (n - length bs) 0)
+    ∙ omega (arith, length_starts 0 bs, length-replicate {A = ℕ} (n - length bs) 0)
 
 -- the end of one more is stored behind the others
 starts_more : (n : ℕ) (bs : List (List ℕ)) (b rest : List ℕ) (k end : ℕ) → length bs < n → k ≡ length bs
@@ -122,7 +122,7 @@ starts_more n bs b rest k end l ek ee =
     let y : length (bs ++ (b ∷ [])) ≡ length bs + 1 = length-append bs (b ∷ []) in
     let s = starts_from 0 bs in
     let zs : List ℕ = replicate (n - (length bs + 1)) 0 in
-    let here : length s ≡ k + 1 = omega (arith, length-starts 0 bs) in
+    let here : length s ≡ k + 1 = omega (arith, length_starts 0 bs) in
     let last : 0 + length (flatten bs ++ b) ≡ end = omega arith in
     let was : block_starts n bs ++ rest ≡ s ++ (0 ∷ (zs ++ rest)) =
     ap (λ (j : ℕ). (s ++ replicate j 0) ++ rest) z ∙ append_assoc s (0 ∷ zs) rest in
@@ -134,8 +134,8 @@ starts_more n bs b rest k end l ek ee =
     ap (λ (t : List ℕ). set t (k + 1) end) was ∙ set_at s 0 (zs ++ rest) end (k + 1) here ∙ sym is
 
 -- before the first block all are zero
-starts-clear : (n : ℕ) (xs ys : List ℕ) → ys ≡ zeroed (n + 1) xs → ys ≡ block_starts n [] ++ drop (n + 1) ys
-starts-clear n xs ys e =
+starts_clear : (n : ℕ) (xs ys : List ℕ) → ys ≡ zeroed (n + 1) xs → ys ≡ block_starts n [] ++ drop (n + 1) ys
+starts_clear n xs ys e =
     let z : n + 1 ≡ suc n = omega arith in
     let y : n - 0 ≡ n = omega arith in
     let front : replicate (n + 1) 0 ≡ block_starts n [] =
@@ -202,7 +202,7 @@ progress_more {n} {kids} {order} {rest} {s} {t} {starts} {starts'} {b} {b'} {k} 
       done = P.done ++ (reverse a ∷ []);
       leads =
           append_assoc P.done (reverse a ∷ []) (cut kids n t (last_first order j))
-          ∙ ap (λ (x : List (List Col)). P.done ++ x) (sym (cut-new kids n s (get_or order j 0) (last_first order j) t a fresh v e))
+          ∙ ap (λ (x : List (List Col)). P.done ++ x) (sym (cut_new kids n s (get_or order j 0) (last_first order j) t a fresh v e))
           ∙ P.leads;
       columns = columns ∙ sym (flatten_snoc P.done (reverse a));
       counted = omega (arith, more.1, P.counted, count);
@@ -244,7 +244,7 @@ seconds_start {n} {given = given} {starts = starts} R C e l = record {
     counted = refl;
     few = omega arith;
     all = λ c h. inr ((C.listed c).1 h);
-    starts_are = starts-clear n given starts e;
+    starts_are = starts_clear n given starts e;
   };
 }
 
@@ -290,10 +290,10 @@ entered_is {n} {col} {m} {es = es} {fs = fs} {es' = es'} {k = k} {r = r} P c low
     go false e =
         let f = enters_in_front walks in
         let fresh : ¬ Mem c s = not_elem c s e in
-        let in-a : Mem c f.0 =
+        let in_a : Mem c f.0 =
         ⊎_elim (λ i. i) (λ i. absurd (fresh i))
         (Memᴰ.append_cases f.0 (subst (Mem c) f.1 (enters_listed walks c (Memᴰ.head refl)))) in
-        new fresh f.0 (is ∙ f.1) (some f.0 in-a)
+        new fresh f.0 (is ∙ f.1) (some f.0 in_a)
         (visit_entered kids n c (record { entered = s; finished = [] }) (walked es fs k) refl ∙ sym is)
 
 -- at most n columns are walked
@@ -353,7 +353,7 @@ seconds_end {n} {col} {m} {order} {es₀ = es₀} {given = given} {starts₀ = s
     S z e =
     subst (λ x. HoldsBlocks n x es₀ given es starts b) whole (record {
       counted = P.counted;
-      columns = front-filled n (flatten P.done) es₀ es S.pass.entered_kept.long front S.pass.entered_kept.beyond;
+      columns = front_filled n (flatten P.done) es₀ es S.pass.entered_kept.long front S.pass.entered_kept.beyond;
       starts_are = P.starts_are ∙ rw (long, back) refl;
     })
   where
@@ -376,7 +376,7 @@ seconds_end {n} {col} {m} {order} {es₀ = es₀} {given = given} {starts₀ = s
         take_last_first es n S.pass.entered_kept.long ∙ ap (λ (x : ℕ). reverse (last_first es x)) (sym count) ∙ P.columns
 
     long : length (block_starts n P.done) ≡ n + 1
-    long = length-block-starts n P.done (omega (arith, P.few, length_last_first es k, count))
+    long = length-block_starts n P.done (omega (arith, P.few, length_last_first es k, count))
 
     back : drop (n + 1) starts₀ ≡ drop (n + 1) given
     back = ap (drop (n + 1)) e ∙ drop-zeroed (n + 1) given

@@ -9,7 +9,7 @@ use lib.ListN.{length, get_or}
 use Rattle.graph.specs.Matchings.{Row, Col}
 use Rattle.graph.proofs.Edits.{edited_same, edited_other}
 use Rattle.sparse.specs.Matrix.{column, column_or, width, Shaped}
-use Rattle.sparse.proofs.Matrix.{column-length}
+use Rattle.sparse.proofs.Matrix.{column_length}
 use Rattle.blocks.specs.Reverse.{entries}
 
 -- column k, if it is not the one replaced, goes from its start to the next
@@ -18,14 +18,14 @@ column_step : {n : ℕ} {starts rows : List ℕ} (e : Col) (new : List Row) → 
 column_step {n} {starts} {rows} e new S k l ne =
     let one : k + 1 ≡ suc k = omega arith in
     let next : get_or starts (k + 1) 0 ≡ get_or starts (suc k) 0 = ap (λ x. get_or starts x 0) one in
-    omega (arith, ap length (edited_other (column starts rows) e new k ne), column-length S k l, S.rising k l, next)
+    omega (arith, ap length (edited_other (column starts rows) e new k ne), column_length S k l, S.rising k l, next)
 
 -- up to the column replaced there are as many as its start says
-entries-before : {n : ℕ} {starts rows : List ℕ} (e : Col) (new : List Row) → Shaped n starts rows → (k : ℕ) → k ≤ n → k ≤ e
+entries_before : {n : ℕ} {starts rows : List ℕ} (e : Col) (new : List Row) → Shaped n starts rows → (k : ℕ) → k ≤ n → k ≤ e
     → entries k (column_or starts rows e new) ≡ get_or starts k 0
-entries-before e new S zero l h = sym S.from_zero
-entries-before e new S (suc k) l h =
-    omega (arith, entries-before e new S k (omega arith) (omega arith), column_step e new S k l (λ z. omega arith))
+entries_before e new S zero l h = sym S.from_zero
+entries_before e new S (suc k) l h =
+    omega (arith, entries_before e new S k (omega arith) (omega arith), column_step e new S k l (λ z. omega arith))
 
 -- behind it the replacement takes the place of its rows
 entries_behind : {n : ℕ} {starts rows : List ℕ} (e : Col) (new : List Row) → Shaped n starts rows → (k : ℕ) → k ≤ n → e < k
@@ -42,14 +42,14 @@ entries_behind {n} {starts} {rows} e new S (suc k) l h =
         let next : get_or starts (e + 1) 0 ≡ get_or starts (suc e) 0 = ap (λ x. get_or starts x 0) one in
         let own : length (column_or starts rows e new e) ≡ length new = ap length (edited_same (column starts rows) e new) in
         subst (λ x. entries (suc x) (column_or starts rows e new) + width starts e ≡ get_or starts (suc x) 0 + length new) y
-        (omega (arith, entries-before e new S e (omega arith) (omega arith), own, S.rising e (omega arith), next))
+        (omega (arith, entries_before e new S e (omega arith) (omega arith), own, S.rising e (omega arith), next))
 
 -- where no column is replaced there are as many as rows
 pub entries_plain : {n : ℕ} {starts rows : List ℕ} (e : Col) (new : List Row) → Shaped n starts rows → n ≤ e
     → entries n (column_or starts rows e new) ≡ length rows
-entries_plain {n} e new S l = entries-before e new S n (omega arith) l ∙ S.to_end
+entries_plain {n} e new S l = entries_before e new S n (omega arith) l ∙ S.to_end
 
 -- where column e is, there are as many as rows, less those of the column and more those of the replacement
-pub entries-edited : {n : ℕ} {starts rows : List ℕ} (e : Col) (new : List Row) → Shaped n starts rows → e < n
+pub entries_edited : {n : ℕ} {starts rows : List ℕ} (e : Col) (new : List Row) → Shaped n starts rows → e < n
     → entries n (column_or starts rows e new) + width starts e ≡ length rows + length new
-entries-edited {n} e new S l = omega (arith, entries_behind e new S n (omega arith) l, S.to_end)
+entries_edited {n} e new S l = omega (arith, entries_behind e new S n (omega arith) l, S.to_end)

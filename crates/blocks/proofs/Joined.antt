@@ -24,9 +24,9 @@ use Rattle.blocks.proofs.Backward.{back_shaped, back_kids, back_inside, back_sho
 -- ---- after the first pass
 
 -- an edge leads from a column below n to a column below n
-pub targets-within : {n : ℕ} {col : Pattern} (m : List Col) → Inside n col → ((r : Row) → r < n → partner m r < n) → Within n
+pub targets_within : {n : ℕ} {col : Pattern} (m : List Col) → Inside n col → ((r : Row) → r < n → partner m r < n) → Within n
     (targets col m)
-targets-within {n} {col} m inside matched c d i =
+targets_within {n} {col} m inside matched c d i =
     let t = Memᴰ.of_map (partner m) (col c) i in
     (inside.col_below c t.0 t.1, targets_below m inside matched c d i)
 
@@ -35,7 +35,7 @@ pub finished_ready : {n : ℕ} {col : Pattern} {m : List Col} {v fs starts : Lis
     → ((r : Row) → r < n → partner m r < n) → Finished n col m v fs → n ≤ length fs → n < length starts → CutReady n fs starts
 finished_ready {n} {col} {m} inside matched F long room = record {
   listed = λ c. subst (λ x. Mem c x ↔ c < n) (sym F.finishes)
-      (finishing_columns n (targets col m) (targets-within m inside matched) c);
+      (finishing_columns n (targets col m) (targets_within m inside matched) c);
   order_long = long;
   starts_long = room;
 }

@@ -18,9 +18,9 @@ use Rattle.blocks.specs.Form.{columns_of, starts_from, starts_of, block_starts, 
 -- ---- the starts
 
 -- there is one start more than there are blocks
-pub length-starts : (at : ℕ) (bs : List (List Col)) → length (starts_from at bs) ≡ length bs + 1
-length-starts at [] = refl
-length-starts at (b ∷ bs) = omega (arith, length-starts (at + length b) bs)
+pub length_starts : (at : ℕ) (bs : List (List Col)) → length (starts_from at bs) ≡ length bs + 1
+length_starts at [] = refl
+length_starts at (b ∷ bs) = omega (arith, length_starts (at + length b) bs)
 
 -- the first is where the first block starts
 pub starts_first : (at : ℕ) (bs : List (List Col)) → get_or (starts_from at bs) 0 0 ≡ at
@@ -72,7 +72,7 @@ mapped f g (b ∷ bs) h = rw (h 0 (omega arith), mapped f (λ k. g (suc k)) bs (
 start_at : (n : ℕ) (bs : List (List Col)) (y : List ℕ) (i : ℕ) → i ≤ length bs
     → get_or (filled (block_starts n bs) y) i 0 ≡ get_or (starts_of bs) i 0
 start_at n bs y i l =
-    let short : i < length (starts_of bs) = omega (arith, length-starts 0 bs) in
+    let short : i < length (starts_of bs) = omega (arith, length_starts 0 bs) in
     filled_at (block_starts n bs) y i (omega (arith, length-append (starts_of bs) (replicate (n - length bs) 0)))
     ∙ get_or-append (starts_of bs) (replicate (n - length bs) 0) 0 i short
 

@@ -23,7 +23,7 @@ use Rattle.blocks.proofs.Walking.{few_entered, entered_room, at_new, at_old}
 -- ---- the column on top
 
 -- it is entered: its rows are to be walked over
-pub turn-enter : {g : Goal} {mark : ℕ} {S₀ S : Lists} {e f k : ℕ} → (W : Walk g mark S₀ S e f (suc k))
+pub turn_enter : {g : Goal} {mark : ℕ} {S₀ S : Lists} {e f k : ℕ} → (W : Walk g mark S₀ S e f (suc k))
     → get_or S.stamps (get_or S.cols k 0) 0 ≢ mark
     → Scanning g mark S₀ (record {
       stamps = set S.stamps (get_or S.cols k 0) mark;
@@ -32,7 +32,7 @@ pub turn-enter : {g : Goal} {mark : ℕ} {S₀ S : Lists} {e f k : ℕ} → (W :
       entered = set S.entered e (get_or S.cols k 0);
       finished = S.finished;
     }) (suc e) f k 0
-turn-enter {g} {mark} {S₀} {S} {e} {f} {k} W ne =
+turn_enter {g} {mark} {S₀} {S} {e} {f} {k} W ne =
     let c = get_or S.cols k 0 in
     let E = at_new W ne in
     let H = W.slices in
@@ -58,9 +58,9 @@ turn-enter {g} {mark} {S₀} {S} {e} {f} {k} W ne =
     }
 
 -- a child of it was finished: the rows behind the child's are to be walked over
-pub turn-again : {g : Goal} {mark : ℕ} {S₀ S : Lists} {e f k : ℕ} → (W : Walk g mark S₀ S e f (suc k))
+pub turn_again : {g : Goal} {mark : ℕ} {S₀ S : Lists} {e f k : ℕ} → (W : Walk g mark S₀ S e f (suc k))
     → get_or S.stamps (get_or S.cols k 0) 0 ≡ mark → Scanning g mark S₀ S e f k (suc (get_or S.places k 0))
-turn-again W z =
+turn_again W z =
     let R = at_old W z in
     let T = R.rest in
     record { w = W.w; slices = W.slices; unfinished = R.unfinished; on = R.on; within = T.0; rest = (T.1, T.2, T.3) }

@@ -12,7 +12,7 @@ use Rattle.sparse.specs.Limits.{max_entries}
 use Rattle.sparse.specs.Matrix.{column, column_or, Shaped, Valid}
 use Rattle.sparse.proofs.Matrix.{column_end, column_beyond}
 use Rattle.blocks.specs.Reverse.{entries}
-use Rattle.blocks.proofs.Entries.{entries-edited}
+use Rattle.blocks.proofs.Entries.{entries_edited}
 use Rattle.rematching.specs.Checks.{edited_entries, Editable}
 use Rattle.rematching.proofs.Replacements.{unfit_few, fit_passes}
 use Rattle.edit.specs.Outcome.{edit_entries}
@@ -20,9 +20,9 @@ use Rattle.edit.specs.Outcome.{edit_entries}
 -- ---- entries
 
 -- the edited matrix has as many entries as the late 1 counts
-pub entries-counted : {size : ℕ} {starts rows : List ℕ} (e : Col) (new : List Row) → Shaped size starts rows → e < size
+pub entries_counted : {size : ℕ} {starts rows : List ℕ} (e : Col) (new : List Row) → Shaped size starts rows → e < size
     → entries size (column_or starts rows e new) ≡ edited_entries starts rows e new
-entries-counted e new S l = omega (arith, entries-edited e new S l, column_end S e l)
+entries_counted e new S l = omega (arith, entries_edited e new S l, column_end S e l)
 
 -- a replacement has at most n rows, since none stands twice
 pub replacement_few : {size : ℕ} {starts rows : List ℕ} {e : Col} {new : List Row} {m : List Col}
@@ -32,12 +32,12 @@ replacement_few {size} {new = new} E = unfit_few size new (fit_passes size new E
 -- so there is room for the entries
 pub entries_roomy : {size : ℕ} {starts rows : List ℕ} {e : Col} {new : List Row} {m : List Col} → Shaped size starts rows
     → Editable size starts rows e new m → entries size (column_or starts rows e new) ≤ edit_entries size rows
-entries_roomy {e = e} {new = new} S E = omega (arith, entries-edited e new S E.below, replacement_few E)
+entries_roomy {e = e} {new = new} S E = omega (arith, entries_edited e new S E.below, replacement_few E)
 
 -- which are within the limit
 pub entries_few : {size : ℕ} {starts rows : List ℕ} {e : Col} {new : List Row} {m : List Col} → Shaped size starts rows
     → Editable size starts rows e new m → entries size (column_or starts rows e new) ≤ max_entries
-entries_few {e = e} {new = new} S E = omega (arith, entries-counted e new S E.below, E.few)
+entries_few {e = e} {new = new} S E = omega (arith, entries_counted e new S E.below, E.few)
 
 -- ---- columns
 

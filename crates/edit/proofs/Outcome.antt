@@ -26,12 +26,12 @@ use Rattle.matching.proofs.Outcome.{hall_marks}
 use Rattle.rematching.specs.Checks.{late}
 use Rattle.rematching.specs.Rematching.{rematching, Rerouted}
 use Rattle.rematching.proofs.Late.{late_passed, late_passes, late_number, late_not_nine}
-use Rattle.rematching.proofs.Rematching.{rematching_decides, rematching-place, rematching_reroutes_slice, perfect_take, edited-inside}
+use Rattle.rematching.proofs.Rematching.{rematching_decides, rematching_place, rematching_reroutes_slice, perfect_take, edited_inside}
 use Rattle.blocks.specs.Form.{columns_of, block_starts, StoredForm}
 use Rattle.triangular.specs.Outcome.{Work, Outputs, Lent, lent, buffers, cleared, Outcome, ended}
 use Rattle.triangular.specs.declared.form.BlockAnswer.{BlockAnswer}
 use Rattle.triangular.specs.declared.form.BlockAnswer.TheVariants.{Accepted, Refused}
-use Rattle.triangular.proofs.Outcome.{blocks-stored}
+use Rattle.triangular.proofs.Outcome.{blocks_stored}
 use Rattle.edit.specs.Outcome.{edit_entries, handed_out, replaced, outcome, Given, Accepts, Means}
 
 -- ---- what passed checks say
@@ -66,25 +66,25 @@ given_late G = late_passes G.valid G.editable
 -- ---- the exits of the outcome
 
 -- refused by 1, 2, 5 or 3: nothing has changed
-pub early-outcome : (size : ℕ) (starts : List ℕ) (rows : List Row) (e : Col) (new : List Row) (l : Lent) (r : Refusal)
+pub early_outcome : (size : ℕ) (starts : List ℕ) (rows : List Row) (e : Col) (new : List Row) (l : Lent) (r : Refusal)
     → first_refusal (early size starts rows (buffers size (edit_entries size rows) l)) ≡ checked.Refused r
     → ended (Refused r) l ≡ outcome size starts rows e new l
 unfolding outcome
-early-outcome size starts rows e new l r q = rw q
+early_outcome size starts rows e new l r q = rw q
 
 -- else what the replacement makes, with workspace and stack zero
-pub replaced-outcome : (size : ℕ) (starts : List ℕ) (rows : List Row) (e : Col) (new : List Row) (l : Lent)
+pub replaced_outcome : (size : ℕ) (starts : List ℕ) (rows : List Row) (e : Col) (new : List Row) (l : Lent)
     → first_refusal (early size starts rows (buffers size (edit_entries size rows) l)) ≡ checked.Passed
     → replaced size starts rows e new (cleared size (edit_entries size rows) l.inner) l.outer ≡ outcome size starts rows e new l
 unfolding outcome
-replaced-outcome size starts rows e new l p = rw p
+replaced_outcome size starts rows e new l p = rw p
 
 -- refused by 4, 13, 14, 15 or the late 1: no output has changed
-pub refused-replaced : (size : ℕ) (starts : List ℕ) (rows : List Row) (e : Col) (new : List Row) (w : Work) (o : Outputs) (r : Refusal)
+pub refused_replaced : (size : ℕ) (starts : List ℕ) (rows : List Row) (e : Col) (new : List Row) (w : Work) (o : Outputs) (r : Refusal)
     → first_refusal (late size starts rows e new o.row2col) ≡ checked.Refused r
     → ended (Refused r) (lent w o) ≡ replaced size starts rows e new w o
 unfolding replaced
-refused-replaced size starts rows e new w o r q = rw q
+refused_replaced size starts rows e new w o r q = rw q
 
 -- else the verdict is handed out
 pub verdict_replaced : (size : ℕ) (starts : List ℕ) (rows : List Row) (e : Col) (new : List Row) (w : Work) (o : Outputs)
@@ -97,21 +97,21 @@ verdict_replaced size starts rows e new w o q = rw q
 -- ---- the verdict
 
 -- a size within the limit is no larger than the number that stands for no column
-small-none : {n : ℕ} → n ≤ max_size → n ≤ none
-small-none l = omega arith
+small_none : {n : ℕ} → n ≤ max_size → n ≤ none
+small_none l = omega arith
 
 -- every entry of the edited matrix is inside
 pub given_inside : {size : ℕ} {starts : List ℕ} {rows : List Row} {e : Col} {new : List Row} {l : Lent}
     → Given size starts rows e new l → Inside size (column_or starts rows e new)
 given_inside {e = e} {new = new} G =
-    edited-inside e new G.valid.shaped G.valid.below G.editable.new_below G.editable.below
+    edited_inside e new G.valid.shaped G.valid.below G.editable.new_below G.editable.below
 
 -- the rule decides what passes
 pub decides : {size : ℕ} {starts : List ℕ} {rows : List Row} {e : Col} {new : List Row} {l : Lent} → Given size starts rows e new l
     → Decides size (column_or starts rows e new) (rematching size (column_or starts rows e new) (take size l.outer.row2col) e)
 decides {size} {starts} {rows} {e} {new} {l} G =
     let m = l.outer.row2col in
-    rematching_decides {col = column starts rows} (take size m) new (small-none G.valid.shaped.small)
+    rematching_decides {col = column starts rows} (take size m) new (small_none G.valid.shaped.small)
     (length-take-le size m (matching_room size (edit_entries size rows) l G.room)) (perfect_take m G.editable.perfect)
     G.editable.below (given_inside G)
 
@@ -120,7 +120,7 @@ reroutes : {size : ℕ} {starts : List ℕ} {rows : List Row} {e : Col} {new : L
     → (p : List Col) → rematching size (column_or starts rows e new) (take size l.outer.row2col) e ≡ accepted p
     → Rerouted size (column_or starts rows e new) l.outer.row2col (filled p l.outer.row2col) e
 reroutes {size} {starts} {rows} {new = new} {l = l} G p h =
-    rematching_reroutes_slice {col = column starts rows} l.outer.row2col new p (small-none G.valid.shaped.small)
+    rematching_reroutes_slice {col = column starts rows} l.outer.row2col new p (small_none G.valid.shaped.small)
     (matching_room size (edit_entries size rows) l G.room) G.editable.perfect G.editable.below (given_inside G) h
 
 -- ---- the meaning
@@ -179,7 +179,7 @@ accepted_hands {size} {col} {e} p old x y I sized M R = record {
 
     form : StoredForm size (Points size col (partner (filled p old))) (filled (columns_of (blocks size (targets col p))) x)
         (filled (block_starts size (blocks size (targets col p))) y) (length (blocks size (targets col p)))
-    form = blocks-stored I p (filled p old) x y M agree
+    form = blocks_stored I p (filled p old) x y M agree
 
 -- what a verdict hands out means that it decides, changes one path and refuses at the edited column
 handed_means : (size : ℕ) (starts : List ℕ) (rows : List Row) (e : Col) (new : List Row) (l : Lent) (w : Work) (v : Verdict)
@@ -228,7 +228,7 @@ verdict_means size starts rows e new l after w answer p q f =
     let v = rematching size col m e in
     let a : after ≡ (handed_out size col w l.outer v).after = ap (λ (o : Outcome). o.after) f in
     let b : answer ≡ (handed_out size col w l.outer v).answer = ap (λ (o : Outcome). o.answer) f in
-    rw (a, b) (handed_means size starts rows e new l w v G (decides G) (reroutes G) (rematching-place size col m e))
+    rw (a, b) (handed_means size starts rows e new l w v G (decides G) (reroutes G) (rematching_place size col m e))
 
 -- the outcome has the meaning
 pub outcome_means : (size : ℕ) (starts : List ℕ) (rows : List Row) (e : Col) (new : List Row) (l after : Lent) (answer : BlockAnswer)
@@ -243,18 +243,18 @@ outcome_means size starts rows e new l after answer h =
         → (x : Checked) → first_refusal (late size starts rows e new l.outer.row2col) ≡ x
         → Means size starts rows e new l after answer
     second p (checked.Refused r) q =
-        let f = h ∙ sym (replaced-outcome size starts rows e new l p)
-        ∙ sym (refused-replaced size starts rows e new w l.outer r q) in
+        let f = h ∙ sym (replaced_outcome size starts rows e new l p)
+        ∙ sym (refused_replaced size starts rows e new w l.outer r q) in
         let b : answer ≡ Refused r = ap (λ (o : Outcome). o.answer) f in
         rw b (late_means size starts rows e new l after r q (ap (λ (o : Outcome). o.after.outer.row2col) f))
     second p checked.Passed q =
         verdict_means size starts rows e new l after w answer p q
-        (h ∙ sym (replaced-outcome size starts rows e new l p) ∙ sym (verdict_replaced size starts rows e new w l.outer q))
+        (h ∙ sym (replaced_outcome size starts rows e new l p) ∙ sym (verdict_replaced size starts rows e new w l.outer q))
 
     first : (x : Checked) → first_refusal (early size starts rows (buffers size (edit_entries size rows) l)) ≡ x
         → Means size starts rows e new l after answer
     first (checked.Refused r) q =
-        let f = h ∙ sym (early-outcome size starts rows e new l r q) in
+        let f = h ∙ sym (early_outcome size starts rows e new l r q) in
         let b : answer ≡ Refused r = ap (λ (o : Outcome). o.answer) f in
         rw b (early_means size starts rows e new l after r q (ap (λ (o : Outcome). o.after.outer.row2col) f))
     first checked.Passed q = second q (first_refusal (late size starts rows e new l.outer.row2col)) refl
@@ -276,5 +276,5 @@ pub tested_exit : (size : ℕ) (starts : List ℕ) (rows : List Row) (e : Col) (
     → (ended answer (lent w o) ≡ outcome size starts rows e new l) × Means size starts rows e new l (lent w o) answer
 tested_exit size starts rows e new l w o answer p f h =
     let k : ended answer (lent w o) ≡ outcome size starts rows e new l =
-    rw f (h (cleared size (edit_entries size rows) l.inner) ∙ replaced-outcome size starts rows e new l p) in
+    rw f (h (cleared size (edit_entries size rows) l.inner) ∙ replaced_outcome size starts rows e new l p) in
     (k, outcome_means size starts rows e new l (lent w o) answer k)

@@ -16,11 +16,11 @@ use Rattle.graph.proofs.Permutations.{permutes}
 use Rattle.sparse.specs.Buffers.{zeroed, filled}
 use Rattle.sparse.specs.Matrix.{column_or}
 use Rattle.sparse.specs.Refusals.{Roomy}
-use Rattle.sparse.proofs.Buffers.{zero_below, length-zeroed, drop-zeroed, front-filled}
+use Rattle.sparse.proofs.Buffers.{zero_below, length-zeroed, drop-zeroed, front_filled}
 use Rattle.matching.specs.Matching.{Verdict, accepted, refused}
 use Rattle.matching.specs.Outcome.{marks_of}
 use Rattle.matching.specs.Parts.{EndsAt, SameBeyond}
-use Rattle.matching.proofs.Ready.{short-or}
+use Rattle.matching.proofs.Ready.{short_or}
 use Rattle.blocks.specs.Cut.{HoldsBlocks}
 use Rattle.blocks.specs.Reverse.{entries, Reversible}
 use Rattle.rematching.specs.Parts.{Unused}
@@ -61,7 +61,7 @@ ends_handed : {size r : ℕ} {m hall : List ℕ} (v : List ℕ) (o : Outputs) (v
 ends_handed {size} {m = m} v o (accepted cols) E l long same z = record {
   cols = cols;
   verdict = refl;
-  filled_with = front-filled size cols o.row2col m long E.1 same;
+  filled_with = front_filled size cols o.row2col m long E.1 same;
   unmarked = z;
 }
 ends_handed v o (refused c seen) E l long same z = absurd (omega (arith, E.0, E.1))
@@ -137,8 +137,8 @@ module _ {size : ℕ} {starts : List ℕ} {rows : List Row} {e : Col} {new : Lis
   handed k z = ends_handed v l.outer _ S.ends k long S.matching z
 
   -- under it the graph of the edited matrix can be reversed
-  pub searched-reversible : size ≤ r → Reversible size (column_or starts rows e new) m
-  searched-reversible k =
+  pub searched_reversible : size ≤ r → Reversible size (column_or starts rows e new) m
+  searched_reversible k =
       let H = handed k refl in
       let D = decides S.given in
       let M : Perfect size (column_or starts rows e new) (partner m) =
@@ -146,39 +146,39 @@ module _ {size : ℕ} {starts : List ℕ} {rows : List Row} {e : Col} {new : Lis
       record {
         inside = given_inside S.given;
         once = edited_once e new S.given.valid S.given.editable.new_once;
-        short = short-or e new S.given.valid.shaped
+        short = short_or e new S.given.valid.shaped
             (omega (arith, replacement_few S.given.editable, S.given.valid.shaped.small));
         permutes = permutes size m M.inside M.once;
         matching_long = long;
       }
 
   -- the workspace has room for the edited matrix
-  pub searched-room : Roomy (work_buffers size (entries size (column_or starts rows e new)) (work v c l.inner.finished
+  pub searched_room : Roomy (work_buffers size (entries size (column_or starts rows e new)) (work v c l.inner.finished
       l.inner.col2row l.inner.backstarts l.inner.backrows s t))
-  searched-room =
+  searched_room =
       work_kept size (entries size (column_or starts rows e new)) l.inner (work v c l.inner.finished l.inner.col2row
       l.inner.backstarts l.inner.backrows s t) S.visited_length S.cheap_length refl refl refl refl S.cols_length
       S.places_length (fewer_room (edit_entries size rows) l.inner (entries_roomy S.given.valid.shaped S.given.editable)
       (roomy_split (work_buffers size (edit_entries size rows) l.inner) (output_buffers size l.outer) S.given.room).0)
 
   -- accepted: the blocks cut are handed out
-  pub searched-accepted : {hall cols ends : List ℕ} {k : ℕ} → size ≤ r → hall ≡ zeroed size l.outer.hall
+  pub searched_accepted : {hall cols ends : List ℕ} {k : ℕ} → size ≤ r → hall ≡ zeroed size l.outer.hall
       → HoldsBlocks size (blocks size (targets (column_or starts rows e new) m)) l.outer.blockcols
       l.outer.blockstarts cols ends k
       → (w : Work) → ended (Accepted k) (lent w (outputs m hall cols ends)) ≡ handed_out size (column_or starts rows e new) w l.outer
       (rematching size (column_or starts rows e new) (take size l.outer.row2col) e)
-  searched-accepted j z B w =
+  searched_accepted j z B w =
       let H = handed j z in
       hand_accepted size (column_or starts rows e new) w l.outer _ m _ _ _ _ (given_inside S.given) (decides S.given) H B
       ∙ rw H.verdict
 
   -- refused: the old matching, the marks and no blocks are handed out
-  pub searched-refused : {hall cols ends : List ℕ} {answer : BlockAnswer} → r < size → answer ≡ unmatchable r
+  pub searched_refused : {hall cols ends : List ℕ} {answer : BlockAnswer} → r < size → answer ≡ unmatchable r
       → hall ≡ filled (table (λ d. bit (eqb (get_or v d 0) (r + 1))) size) l.outer.hall
       → cols ≡ zeroed (form_need size) l.outer.blockcols → ends ≡ zeroed (starts_need size) l.outer.blockstarts
       → (w : Work) → ended answer (lent w (outputs m hall cols ends)) ≡ handed_out size (column_or starts rows e new) w l.outer
       (rematching size (column_or starts rows e new) (take size l.outer.row2col) e)
-  searched-refused k a eh ec es w =
+  searched_refused k a eh ec es w =
       rw a (ends_refused (column_or starts rows e new) w v l.outer
       (rematching size (column_or starts rows e new) (take size l.outer.row2col) e) S.ends k (S.kept k) eh ec es)
 
@@ -197,15 +197,15 @@ module _ {size : ℕ} {starts : List ℕ} {rows : List Row} {e : Col} {new : Lis
   }
 
   -- so it is cleared to what it would have been
-  pub searched-cleared : cleared size (edit_entries size rows) (work v c l.inner.finished l.inner.col2row
+  pub searched_cleared : cleared size (edit_entries size rows) (work v c l.inner.finished l.inner.col2row
       l.inner.backstarts l.inner.backrows s t) ≡ cleared size (edit_entries size rows) l.inner
-  searched-cleared = same_cleared size (edit_entries size rows) l.inner _ same
+  searched_cleared = same_cleared size (edit_entries size rows) l.inner _ same
 
   -- also after the passes, which need no more than there is room for
-  pub passed-cleared : {x : Work} → SameWork size (entries size (column_or starts rows e new)) (work v c l.inner.finished
+  pub passed_cleared : {x : Work} → SameWork size (entries size (column_or starts rows e new)) (work v c l.inner.finished
       l.inner.col2row l.inner.backstarts l.inner.backrows s t) x
       → cleared size (edit_entries size rows) x ≡ cleared size (edit_entries size rows) l.inner
-  passed-cleared A =
+  passed_cleared A =
       same_cleared size (edit_entries size rows) _ _
       (same_more (edit_entries size rows) (entries_roomy S.given.valid.shaped S.given.editable) A)
-      ∙ searched-cleared
+      ∙ searched_cleared

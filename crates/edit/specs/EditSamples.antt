@@ -39,8 +39,8 @@ four a b c d = a ∷ b ∷ c ∷ d ∷ []
 -- workspace and stack for n columns, with k places for rows of the reversed graph: x over each need, and what lies beyond
 abbrev inside : ℕ → ℕ → ℕ → List ℕ → Work
 inside n k x beyond =
-    let byColumn = replicate n x ++ beyond in
-    work byColumn byColumn byColumn byColumn (replicate (n + 1) x ++ beyond) (replicate k x ++ beyond) byColumn byColumn
+    let by_column = replicate n x ++ beyond in
+    work by_column by_column by_column by_column (replicate (n + 1) x ++ beyond) (replicate k x ++ beyond) by_column by_column
 
 -- ---- P6, the full matrix of size 2
 

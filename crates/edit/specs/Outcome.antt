@@ -4,7 +4,7 @@ use Rattle.graph.specs.Matchings.{Row, Col, Pattern, Perfect, Points, partner}
 use Rattle.graph.specs.Blocks.{BlockForm, SameBlocks}
 use Rattle.sparse.specs.Buffers.{zeroed, filled}
 use Rattle.sparse.specs.Matrix.{column_or, Valid}
-use Rattle.sparse.specs.Refusals.{first_refusal, onCheck, Roomy, early}
+use Rattle.sparse.specs.Refusals.{first_refusal, on_check, Roomy, early}
 use Rattle.sparse.specs.declared.Refusal.{Refusal}
 use Rattle.matching.specs.Matching.{Verdict, accepted, refused, Matchable}
 use Rattle.matching.specs.Outcome.{marks_of, HallMarks}
@@ -38,13 +38,13 @@ handed_out size col w o (refused c visited) =
 unfoldable pub replaced : ℕ → List ℕ → List Row → Col → List Row → Work → Outputs → Outcome
 replaced size starts rows e new w o =
     let col = column_or starts rows e new in
-    onCheck (first_refusal (late size starts rows e new o.row2col)) (λ (r : Refusal). ended (Refused r) (lent w o))
+    on_check (first_refusal (late size starts rows e new o.row2col)) (λ (r : Refusal). ended (Refused r) (lent w o))
     (handed_out size col w o (rematching size col (take size o.row2col) e))
 
 -- for any input: 1, 2, 5 and 3 change nothing; anything else leaves workspace and stack zero
 unfoldable pub outcome : ℕ → List ℕ → List Row → Col → List Row → Lent → Outcome
 outcome size starts rows e new l =
-    onCheck (first_refusal (early size starts rows (buffers size (edit_entries size rows) l))) (λ (r : Refusal). ended (Refused r) l)
+    on_check (first_refusal (early size starts rows (buffers size (edit_entries size rows) l))) (λ (r : Refusal). ended (Refused r) l)
     (replaced size starts rows e new (cleared size (edit_entries size rows) l.inner) l.outer)
 
 -- ---- the meaning

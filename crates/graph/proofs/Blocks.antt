@@ -15,7 +15,7 @@ use Rattle.graph.proofs.Lists.{elem_mem, mem_elem, range_is, keep_has, keep_only
 use Rattle.graph.proofs.Concatenation.{mem_flatten, once_length, once_permutes}
 use Rattle.graph.proofs.Walks.{Child, Walks}
 use Rattle.graph.proofs.Reached.{walk_from, walk_reached}
-use Rattle.graph.proofs.Finishing.{FinishingOrder, walk-finishing}
+use Rattle.graph.proofs.Finishing.{FinishingOrder, walk_finishing}
 use Rattle.graph.proofs.Components.{Reversed}
 use Rattle.graph.proofs.Cuts.{Within, reach_below, Rest, cut_rest}
 
@@ -49,7 +49,7 @@ finishing_once n kids within = (walk_reached (first_walk n kids within)).finishe
 -- the first walk finishes in finishing order
 pub finishing_order : (n : ℕ) (kids : Col → List Col) → Within n kids → FinishingOrder (Child kids) (finishing n kids)
 unfolding finishing
-finishing_order n kids within = walk-finishing (first_walk n kids within)
+finishing_order n kids within = walk_finishing (first_walk n kids within)
 
 -- ---- the blocks
 
@@ -77,9 +77,9 @@ blocks_form n kids within =
     }
 
 -- no block is empty
-pub blocks-filled : (n : ℕ) (kids : Col → List Col) → Within n kids → (i : ℕ) → i < length (blocks n kids)
+pub blocks_filled : (n : ℕ) (kids : Col → List Col) → Within n kids → (i : ℕ) → i < length (blocks n kids)
     → (c : Col) × Mem c (block (blocks n kids) i)
-blocks-filled n kids within = (blocks_rest n kids within).filled
+blocks_filled n kids within = (blocks_rest n kids within).filled
 
 -- every column of a block is below n
 pub blocks_below : (n : ℕ) (kids : Col → List Col) → Within n kids → (i : ℕ) (c : Col) → Mem c (block (blocks n kids) i) → c < n
@@ -97,8 +97,8 @@ blocks_columns n kids within c = (
 )
 
 -- the blocks have n columns together
-pub blocks-length : (n : ℕ) (kids : Col → List Col) → Within n kids → length (flatten (blocks n kids)) ≡ n
-blocks-length n kids within = once_length n (flatten (blocks n kids)) (blocks_once n kids within) (blocks_columns n kids within)
+pub blocks_length : (n : ℕ) (kids : Col → List Col) → Within n kids → length (flatten (blocks n kids)) ≡ n
+blocks_length n kids within = once_length n (flatten (blocks n kids)) (blocks_once n kids within) (blocks_columns n kids within)
 
 -- the blocks one after another are a permutation of the columns
 pub blocks_permute : (n : ℕ) (kids : Col → List Col) → Within n kids → Permutes n (flatten (blocks n kids))

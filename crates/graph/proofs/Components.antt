@@ -38,14 +38,14 @@ pub component : {kids back : ℕ → List ℕ} {c : ℕ} {w w' : Walked} (before
     → (x : ℕ) → (Mem x w'.entered × (¬ Mem x w.entered)) ↔ Both (Child kids) c x
 component {kids} {back} {c} {w} {w'} before turned new shut order once all t x = (both, added)
   where
-    to-root : Mem x w'.entered → ¬ Mem x w.entered → Reach (Child kids) x c
-    to-root i out =
+    to_root : Mem x w'.entered → ¬ Mem x w.entered → Reach (Child kids) x c
+    to_root i out =
         ⊎_elim (λ j. absurd (out j))
         (λ u. turn_round (λ p q h. (turned q p).1 h) (reach_from (sym (Memᴰ.eq_of_singleton u.1)) u.2)) (enters_reached t x i)
 
     both : Mem x w'.entered × (¬ Mem x w.entered) → Both (Child kids) c x
     both u =
-        let p : Reach (Child kids) x c = to-root u.0 u.1 in
+        let p : Reach (Child kids) x c = to_root u.0 u.1 in
         (returns (λ z. ¬ Mem z w.entered) (λ y z out h i. out (shut y z h i)) c before order once all x u.1 p, p)
 
     added : Both (Child kids) c x → Mem x w'.entered × (¬ Mem x w.entered)

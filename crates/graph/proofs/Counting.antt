@@ -142,10 +142,10 @@ first_at p (suc n) zero l h e = rw e
 first_at p (suc n) (suc i) l h e =
     rw (h 0 (omega arith)) (ap suc (first_at (λ k. p (suc k)) n i (le_of_suc-le-suc l) (λ k m. h (suc k) (omega arith)) e))
 
-pub first-none : (p : ℕ → Bool) (n : ℕ) → ((k : ℕ) → k < n → p k ≡ false) → first p n ≡ n
+pub first_none : (p : ℕ → Bool) (n : ℕ) → ((k : ℕ) → k < n → p k ≡ false) → first p n ≡ n
 unfolding first
-first-none p zero h = refl
-first-none p (suc n) h = rw (h 0 (omega arith)) (ap suc (first-none (λ k. p (suc k)) n (λ k m. h (suc k) (omega arith))))
+first_none p zero h = refl
+first_none p (suc n) h = rw (h 0 (omega arith)) (ap suc (first_none (λ k. p (suc k)) n (λ k m. h (suc k) (omega arith))))
 
 -- nothing that p takes stands before the first
 pub first_le : (p : ℕ → Bool) (n k : ℕ) → k < n → p k ≡ true → first p n ≤ k
@@ -192,8 +192,8 @@ some_is p (suc n) e = go (some_is p n) (p n) refl e
     go ih true h t = (n, omega arith, h)
     go ih false h t = let s = ih t in (s.0, omega (arith, s.1), s.2)
 
-pub some-none : (p : ℕ → Bool) (n : ℕ) → ((k : ℕ) → k < n → p k ≡ false) → some p n ≡ false
-some-none p n h = is_false (some p n) (λ t. let s = some_is p n t in apart (p s.0) s.2 (h s.0 s.1))
+pub some_none : (p : ℕ → Bool) (n : ℕ) → ((k : ℕ) → k < n → p k ≡ false) → some p n ≡ false
+some_none p n h = is_false (some p n) (λ t. let s = some_is p n t in apart (p s.0) s.2 (h s.0 s.1))
 
 pub some_false : (p : ℕ → Bool) (n k : ℕ) → some p n ≡ false → k < n → p k ≡ false
 some_false p n k h l = is_false (p k) (λ t. apart (some p n) (some_at p n k l t) h)

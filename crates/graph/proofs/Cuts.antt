@@ -65,7 +65,7 @@ pub record Rest (n : ℕ) (kids : Col → List Col) (s : List Col) (bs : List (L
 -- the next listed column is passed, where it stands in what s has become
 pass : {n : ℕ} {kids : Col → List Col} {c : Col} {s t cs : List Col} → Partway n kids s (c ∷ cs) → Once t → Closed kids t
     → ((x : Col) → Mem x s → Mem x t) → Mem c t → Partway n kids t cs
-pass P once shut grows c-in = record {
+pass P once shut grows c_in = record {
   cut_once = once;
   shut = shut;
   order = P.order.0;
@@ -73,7 +73,7 @@ pass P once shut grows c-in = record {
   listed_below = λ x i. P.listed_below x (Memᴰ.tail i);
   all = λ x l. ⊎_elim
       (λ i. inl (grows x i))
-      (λ i. ⊎_elim (λ e. inl (Memᴰ.cast e c-in)) (λ j. inr j) (Memᴰ.cases_cons i))
+      (λ i. ⊎_elim (λ e. inl (Memᴰ.cast e c_in)) (λ j. inr j) (Memᴰ.cases_cons i))
       (P.all x l);
 }
 
@@ -148,8 +148,8 @@ more {n} {kids} {c} {bs} a s within l shut once is rest = record {
     filled (suc i) k = rest.filled i (omega arith)
 
 -- what was put in front of s
-take-front : (l a s : List Col) → l ≡ a ++ s → take (length l - length s) l ≡ a
-take-front l a s e = rw e (take_at a s (length (a ++ s) - length s) (omega (arith, length-append a s)))
+take_front : (l a s : List Col) → l ≡ a ++ s → take (length l - length s) l ≡ a
+take_front l a s e = rw e (take_at a s (length (a ++ s) - length s) (omega (arith, length-append a s)))
 
 -- a walk from the next listed column, where it is new, finds one block more
 next : {n : ℕ} {kids back : Col → List Col} {c : Col} {s cs : List Col} (w : Walked) → Within n kids → Reversed kids back
@@ -159,9 +159,9 @@ next : {n : ℕ} {kids back : Col → List Col} {c : Col} {s cs : List Col} (w :
 next {n} {kids} {back} {c} {s} {cs} w within turned P new t on =
     let shut : Closed kids w.entered = closed_walk turned t P.shut in
     let once : Once w.entered = enters_once t P.cut_once in
-    let c-in : Mem c w.entered = enters_listed t c (Memᴰ.head refl) in
+    let c_in : Mem c w.entered = enters_listed t c (Memᴰ.head refl) in
     let a = enters_in_front t in
-    front a.0 a.1 a.2 shut once (on (pass P once shut (stays_entered t) c-in))
+    front a.0 a.1 a.2 shut once (on (pass P once shut (stays_entered t) c_in))
   where
     inside : c < n
     inside = P.listed_below c (Memᴰ.head refl)
@@ -176,7 +176,7 @@ next {n} {kids} {back} {c} {s} {cs} w within turned P new t on =
         → Rest n kids w.entered (cut back n w.entered cs)
         → Rest n kids s (reverse (take (length w.entered - length s) w.entered) ∷ cut back n w.entered cs)
     front a e fresh shut once rest =
-        rw (take-front w.entered a s e, e)
+        rw (take_front w.entered a s e, e)
         (more a s within inside (rw e at shut) (rw e at once) (λ x. Iff.trans (added x) (is x)) (rw e at rest))
       where
         added : (x : Col) → Mem x a ↔ (Mem x w.entered × (¬ Mem x s))

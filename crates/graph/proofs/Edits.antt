@@ -88,9 +88,9 @@ freed_unmatched : {n : ℕ} {col : Pattern} {m : List Col} {c₀ x : Col} → Be
 freed_unmatched B r l z = let k = freed_kept B r l (rw z B.below) in k.not_edited (sym k.same ∙ z)
 
 -- every other column has one
-freed-matched : {n : ℕ} {col : Pattern} {m : List Col} {c₀ x : Col} → Before n col m c₀ x
+freed_matched : {n : ℕ} {col : Pattern} {m : List Col} {c₀ x : Col} → Before n col m c₀ x
     → (b : Col) → b < n → b ≢ c₀ → Matched n (partner (freed n m c₀ x)) b
-freed-matched {n} {col} {m} {c₀} {x} B b l h =
+freed_matched {n} {col} {m} {c₀} {x} B b l h =
     let r = preimage (partner m) n b in
     let t = row_of B.perfect b l in
     (r, t.0, freed_other n m c₀ x r (λ z. h (sym t.1 ∙ ap (partner m) z ∙ (former_is B).1)) ∙ t.1)
@@ -105,13 +105,13 @@ freed_only {n} {col} {m} {c₀} {x} B r l h = go (ℕ_discrete r (former n m c�
     go (no z) = absurd (omega (arith, freed_other n m c₀ x r z, B.perfect.inside r l))
 
 -- once column c₀ gains a row, and no column loses its own, every column has one
-freed-full : {n : ℕ} {col col' : Pattern} {m g : List Col} {c₀ x : Col} → Before n col m c₀ x
+freed_full : {n : ℕ} {col col' : Pattern} {m g : List Col} {c₀ x : Col} → Before n col m c₀ x
     → Augmented n col' (freed n m c₀ x) c₀ g → (b : Col) → b < n → Matched n (partner g) b
-freed-full {n} {g = g} {c₀ = c₀} B A b l = go (ℕ_discrete b c₀)
+freed_full {n} {g = g} {c₀ = c₀} B A b l = go (ℕ_discrete b c₀)
   where
     go : Dec (b ≡ c₀) → Matched n (partner g) b
     go (yes z) = rw z A.gains
-    go (no z) = A.keeps b l (freed-matched B b l z)
+    go (no z) = A.keeps b l (freed_matched B b l z)
 
 -- ---- the edit
 
@@ -150,6 +150,6 @@ edit_accepted {n} {col} {c₀} {t} {p} {e} m new x size M l o I v =
       ends = ends;
       path = path_agree kept a;
       from_freed = same;
-      perfect = rw (same x) at (full_perfect A.partial (freed-full B A));
+      perfect = rw (same x) at (full_perfect A.partial (freed_full B A));
       others = augment_other p m c₀ e;
     }

@@ -87,9 +87,9 @@ walk_ordered {kids} (descend {c = c} {cs = cs} {w = w} {v = v} new down on) O up
         (j, λ k. o.1 (Memᴰ.tail (stays_finished down z k)))
 
 -- a walk that starts from nothing finishes in finishing order
-pub walk-finishing : {kids : ℕ → List ℕ} {roots : List ℕ} {w : Walked} → Walks kids unwalked roots w
+pub walk_finishing : {kids : ℕ → List ℕ} {roots : List ℕ} {w : Walked} → Walks kids unwalked roots w
     → FinishingOrder (Child kids) w.finished
-walk-finishing {kids} {roots} {w} t = ordered.order
+walk_finishing {kids} {roots} {w} t = ordered.order
   where
     ordered : Ordered kids w
     ordered =

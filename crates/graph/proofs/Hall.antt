@@ -91,8 +91,8 @@ abbrev pub neighbour : ℕ → Pattern → (Col → Bool) → Row → Bool
 neighbour n col h r = some (λ c. h c && elem r (col c)) n
 
 -- these are the rows of h
-pub neighbour-rows : (n : ℕ) (col : Pattern) (h : Col → Bool) → RowsOf n col h (neighbour n col h)
-neighbour-rows n col h = record { has = has; only = only }
+pub neighbour_rows : (n : ℕ) (col : Pattern) (h : Col → Bool) → RowsOf n col h (neighbour n col h)
+neighbour_rows n col h = record { has = has; only = only }
   where
     has : (c : Col) (r : Row) → c < n → r < n → h c ≡ true → Entry col c r → neighbour n col h r ≡ true
     has c r l k e i = some_at (λ d. h d && elem r (col d)) n c l (and_both (h c) (elem r (col c)) e (mem_elem r (col c) i))
@@ -107,5 +107,5 @@ neighbour-rows n col h = record { has = has; only = only }
 pub failed_hall_set : {n : ℕ} {col : Pattern} {f : Row → Col} {c₀ : Col} {h : Col → Bool}
     → Partial n col f → Failed n col f c₀ h → HallSet n col h
 failed_hall_set {n} {col} {h = h} P F =
-    let Q = neighbour-rows n col h in
+    let Q = neighbour_rows n col h in
     record { rows = neighbour n col h; rows_of = Q; one_less = hall Q P F }

@@ -98,8 +98,8 @@ left_mono n s t h =
     go c true e f = absurd (false≢true (rw (mem_elem c t (h c (elem_mem c s e))) at f))
 
 -- one that was left out is put in front
-pub left-enter : (n c : ℕ) (s : List ℕ) → c < n → elem c s ≡ false → left n s ≡ suc (left n (c ∷ s))
-left-enter n c s l e =
+pub left_enter : (n c : ℕ) (s : List ℕ) → c < n → elem c s ≡ false → left n s ≡ suc (left n (c ∷ s))
+left_enter n c s l e =
     count_minus (λ i. not (elem i s)) c n l (rw e)
     ∙ ap suc (count_ext (without (λ i. not (elem i s)) c) (λ i. not (elem i (c ∷ s))) n (λ i k. same (eqb i c) (elem i s)))
   where
@@ -108,12 +108,12 @@ left-enter n c s l e =
     same false b = refl
 
 -- where none is left out, each is in
-pub left-none : (n c : ℕ) (s : List ℕ) → c < n → left n s ≡ 0 → elem c s ≡ true
-left-none n c s l z = go (elem c s) refl
+pub left_none : (n c : ℕ) (s : List ℕ) → c < n → left n s ≡ 0 → elem c s ≡ true
+left_none n c s l z = go (elem c s) refl
   where
     go : (b : Bool) → elem c s ≡ b → elem c s ≡ true
     go true e = e
-    go false e = absurd (omega (arith, left-enter n c s l e))
+    go false e = absurd (omega (arith, left_enter n c s l e))
 
 -- a list of numbers below n without repeats, and the numbers it leaves out, make n
 pub once_left : (n : ℕ) (l : List ℕ) → Once l → ((x : ℕ) → Mem x l → x < n) → left n l + length l ≡ n
@@ -124,11 +124,11 @@ once_left n [] o h = omega (arith, all n)
     all (suc k) = omega (arith, all k)
 once_left n (c ∷ l) o h =
     let ih = once_left n l o.0 (λ x i. h x (Memᴰ.tail i)) in
-    omega (arith, left-enter n c l (h c (Memᴰ.head refl)) (elem_not c l o.1), ih)
+    omega (arith, left_enter n c l (h c (Memᴰ.head refl)) (elem_not c l o.1), ih)
 
 -- so there is room for one that it leaves out
 pub once_room : (n : ℕ) (l : List ℕ) (c : ℕ) → Once l → ((x : ℕ) → Mem x l → x < n) → c < n → ¬ Mem c l → length l < n
-once_room n l c o h k new = omega (arith, once_left n l o h, left-enter n c l k (elem_not c l new))
+once_room n l c o h k new = omega (arith, once_left n l o h, left_enter n c l k (elem_not c l new))
 
 -- ---- the lists of the rules
 

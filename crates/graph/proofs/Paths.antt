@@ -205,12 +205,12 @@ unwind m c [] e = set m e c
 unwind m c (r ∷ p) e = set (unwind m (partner m r) p e) r c
 
 -- a row off the path may be set before or after
-unwind-set : (p : List Row) (m : List Col) (b : Col) (e r : Row) (c : Col)
+unwind_set : (p : List Row) (m : List Col) (b : Col) (e r : Row) (c : Col)
     → ¬ Mem r p → r ≢ e → unwind (set m r c) b p e ≡ set (unwind m b p e) r c
-unwind-set [] m b e r c h k = set_comm m r e c b k
-unwind-set (q ∷ p) m b e r c h k =
+unwind_set [] m b e r c h k = set_comm m r e c b k
+unwind_set (q ∷ p) m b e r c h k =
     let ne : q ≢ r = λ z. h (Memᴰ.head (sym z)) in
-    let ih = unwind-set p m (partner m q) e r c (λ i. h (Memᴰ.tail i)) k in
+    let ih = unwind_set p m (partner m q) e r c (λ i. h (Memᴰ.tail i)) k in
     rw (move_other m c r q ne, ih) (set_comm (unwind m (partner m q) p e) r q c b (λ z. ne (sym z)))
 
 -- either order gives the same matching
@@ -218,4 +218,4 @@ pub unwind_is : (p : List Row) (m : List Col) (c : Col) (e : Row) → Once p →
 unwind_is [] m c e o h = refl
 unwind_is (r ∷ p) m c e o h =
     let ih = unwind_is p (set m r c) (partner m r) e o.0 (λ i. h (Memᴰ.tail i)) in
-    ih ∙ unwind-set p m (partner m r) e r c o.1 (λ z. h (Memᴰ.head (sym z)))
+    ih ∙ unwind_set p m (partner m r) e r c o.1 (λ z. h (Memᴰ.head (sym z)))

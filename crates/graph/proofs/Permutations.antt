@@ -27,10 +27,10 @@ unfolding inverse
 length-inverse n p = length-table (preimage (λ i. get_or p i 0) n) n
 
 -- the inverse takes a number to a place where it stands
-pub inverse-place : {n : ℕ} {p : List ℕ} → Permutes n p → (c : ℕ) → c < n
+pub inverse_place : {n : ℕ} {p : List ℕ} → Permutes n p → (c : ℕ) → c < n
     → (get_or (inverse n p) c 0 < n) × (get_or p (get_or (inverse n p) c 0) 0 ≡ c)
 unfolding inverse
-inverse-place {n} {p} P c l =
+inverse_place {n} {p} P c l =
     let t = P.onto c l in
     let e = get_or-table (preimage (λ i. get_or p i 0) n) n c l in
     rw e (preimage_ok (λ i. get_or p i 0) n c t.0 t.1 t.2)
@@ -39,18 +39,18 @@ inverse-place {n} {p} P c l =
 pub inverse-inverse : {n : ℕ} {p : List ℕ} → Permutes n p → Inverse n p (inverse n p)
 inverse-inverse {n} {p} P = record {
   forth_below = P.below;
-  back_below = λ c l. (inverse-place P c l).0;
+  back_below = λ c l. (inverse_place P c l).0;
   there_and_back = λ i l.
-      let t = inverse-place P (get_or p i 0) (P.below i l) in
+      let t = inverse_place P (get_or p i 0) (P.below i l) in
       P.once (get_or (inverse n p) (get_or p i 0) 0) i t.0 l t.1;
-  back_and_there = λ c l. (inverse-place P c l).1;
+  back_and_there = λ c l. (inverse_place P c l).1;
 }
 
 -- an inverse is known by where it takes the numbers of p
 pub inverse_only : {n : ℕ} {p : List ℕ} (q : List ℕ) → Permutes n p → ((i : ℕ) → i < n → get_or q (get_or p i 0) 0 ≡ i)
     → (c : ℕ) → c < n → get_or q c 0 ≡ get_or (inverse n p) c 0
 inverse_only {n} {p} q P hit c l =
-    let t = inverse-place P c l in
+    let t = inverse_place P c l in
     ap (λ (x : ℕ). get_or q x 0) (sym t.1) ∙ hit (get_or (inverse n p) c 0) t.0
 
 -- both of two inverse lists are permutations

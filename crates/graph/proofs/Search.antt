@@ -54,31 +54,31 @@ first_free_is (later h f) = let t = first_free_is f in (Memᴰ.tail t.0, t.1)
 
 mutual
   -- the column is visited now, and what was visited stays so
-  pub visit-keeps : {n : ℕ} {col : Pattern} {m s t : List Col} {c : Col} {o : Ending}
+  pub visit_keeps : {n : ℕ} {col : Pattern} {m s t : List Col} {c : Col} {o : Ending}
       → Visit n col m s c t o → (x : Col) → Mem x (c ∷ s) → Mem x t
-  visit-keeps (free h) x i = i
-  visit-keeps (deep h w) x i = scan-keeps w x i
+  visit_keeps (free h) x i = i
+  visit_keeps (deep h w) x i = scan_keeps w x i
 
   -- what was visited stays so
-  pub scan-keeps : {n : ℕ} {col : Pattern} {m s t : List Col} {rs : List Row} {o : Ending}
+  pub scan_keeps : {n : ℕ} {col : Pattern} {m s t : List Col} {rs : List Row} {o : Ending}
       → Scan n col m s rs t o → (x : Col) → Mem x s → Mem x t
-  scan-keeps done x i = i
-  scan-keeps (pass h w) x i = scan-keeps w x i
-  scan-keeps (hit h v) x i = visit-keeps v x (Memᴰ.tail i)
-  scan-keeps (miss h v w) x i = scan-keeps w x (visit-keeps v x (Memᴰ.tail i))
+  scan_keeps done x i = i
+  scan_keeps (pass h w) x i = scan_keeps w x i
+  scan_keeps (hit h v) x i = visit_keeps v x (Memᴰ.tail i)
+  scan_keeps (miss h v w) x i = scan_keeps w x (visit_keeps v x (Memᴰ.tail i))
 
 mutual
   -- no column is visited twice
-  pub visit-once : {n : ℕ} {col : Pattern} {m s t : List Col} {c : Col} {o : Ending}
+  pub visit_once : {n : ℕ} {col : Pattern} {m s t : List Col} {c : Col} {o : Ending}
       → Visit n col m s c t o → Once s → ¬ Mem c s → Once t
-  visit-once (free h) u new = (u, new)
-  visit-once (deep h w) u new = scan-once w (u, new)
+  visit_once (free h) u new = (u, new)
+  visit_once (deep h w) u new = scan_once w (u, new)
 
-  scan-once : {n : ℕ} {col : Pattern} {m s t : List Col} {rs : List Row} {o : Ending} → Scan n col m s rs t o → Once s → Once t
-  scan-once done u = u
-  scan-once (pass h w) u = scan-once w u
-  scan-once (hit h v) u = visit-once v u h
-  scan-once (miss h v w) u = scan-once w (visit-once v u h)
+  scan_once : {n : ℕ} {col : Pattern} {m s t : List Col} {rs : List Row} {o : Ending} → Scan n col m s rs t o → Once s → Once t
+  scan_once done u = u
+  scan_once (pass h w) u = scan_once w u
+  scan_once (hit h v) u = visit_once v u h
+  scan_once (miss h v w) u = scan_once w (visit_once v u h)
 
 -- every column of the list is below n
 abbrev pub AllBelow : ℕ → List Col → Type 0
@@ -89,18 +89,18 @@ below_cons c l b x i = ⊎_elim (λ e. rw e l) (b x) (Memᴰ.cases_cons i)
 
 mutual
   -- from a column below n only columns below n are visited
-  pub visit-below : {n : ℕ} {col : Pattern} {m s t : List Col} {c : Col} {o : Ending}
+  pub visit_below : {n : ℕ} {col : Pattern} {m s t : List Col} {c : Col} {o : Ending}
       → Visit n col m s c t o → c < n → AllBelow n s → AllBelow n t
-  visit-below (free {c = c} h) l b = below_cons c l b
-  visit-below (deep {c = c} h w) l b = scan-below w h (below_cons c l b)
+  visit_below (free {c = c} h) l b = below_cons c l b
+  visit_below (deep {c = c} h w) l b = scan_below w h (below_cons c l b)
 
-  scan-below : {n : ℕ} {col : Pattern} {m s t : List Col} {rs : List Row} {o : Ending}
+  scan_below : {n : ℕ} {col : Pattern} {m s t : List Col} {rs : List Row} {o : Ending}
       → Scan n col m s rs t o → NoneFree n m rs → AllBelow n s → AllBelow n t
-  scan-below done held b = b
-  scan-below (pass h w) held b = scan-below w (λ q i. held q (Memᴰ.tail i)) b
-  scan-below (hit {r = r} h v) held b = visit-below v (held r (Memᴰ.head refl)) b
-  scan-below (miss {r = r} h v w) held b =
-      scan-below w (λ q i. held q (Memᴰ.tail i)) (visit-below v (held r (Memᴰ.head refl)) b)
+  scan_below done held b = b
+  scan_below (pass h w) held b = scan_below w (λ q i. held q (Memᴰ.tail i)) b
+  scan_below (hit {r = r} h v) held b = visit_below v (held r (Memᴰ.head refl)) b
+  scan_below (miss {r = r} h v w) held b =
+      scan_below w (λ q i. held q (Memᴰ.tail i)) (visit_below v (held r (Memᴰ.head refl)) b)
 
 -- ---- a found path
 
@@ -117,23 +117,23 @@ IfFound n col m s c (found p e) = Augmenting n col m s c p e
 
 mutual
   -- what each visit, and each scan of rows of column c, says of a path
-  visit-path : {n : ℕ} {col : Pattern} {m s t : List Col} {c : Col} {o : Ending} → Inside n col
+  visit_path : {n : ℕ} {col : Pattern} {m s t : List Col} {c : Col} {o : Ending} → Inside n col
       → Visit n col m s c t o → IfFound n col m (c ∷ s) c o
-  visit-path I (free {c = c} {e = e} h) =
+  visit_path I (free {c = c} {e = e} h) =
       let t = first_free_is h in
       record {
         alternating = last (I.row_below c e t.0) t.0;
         ends_free = t.1;
         unvisited = λ r i. absurd (Memᴰ.not-nil i);
       }
-  visit-path I (deep {c = c} h w) = scan-path I w c (λ r i. i) h
+  visit_path I (deep {c = c} h w) = scan_path I w c (λ r i. i) h
 
-  scan-path : {n : ℕ} {col : Pattern} {m s t : List Col} {rs : List Row} {o : Ending} → Inside n col
+  scan_path : {n : ℕ} {col : Pattern} {m s t : List Col} {rs : List Row} {o : Ending} → Inside n col
       → Scan n col m s rs t o → (c : Col) → ((r : Row) → Mem r rs → Entry col c r) → NoneFree n m rs → IfFound n col m s c o
-  scan-path I done c on held = tt
-  scan-path I (pass h w) c on held = scan-path I w c (λ r i. on r (Memᴰ.tail i)) (λ r i. held r (Memᴰ.tail i))
-  scan-path {m = m} {s = s} I (hit {r = r} {p = p} h v) c on held =
-      let P = visit-path I v in
+  scan_path I done c on held = tt
+  scan_path I (pass h w) c on held = scan_path I w c (λ r i. on r (Memᴰ.tail i)) (λ r i. held r (Memᴰ.tail i))
+  scan_path {m = m} {s = s} I (hit {r = r} {p = p} h v) c on held =
+      let P = visit_path I v in
       let x = on r (Memᴰ.head refl) in
       let new : ¬ Mem r p = λ j. P.unvisited r j (Memᴰ.head refl) in
       record {
@@ -142,19 +142,19 @@ mutual
         unvisited = λ q j k.
             ⊎_elim (λ z. h (subst (λ y. Mem (partner m y) s) z k)) (λ i. P.unvisited q i (Memᴰ.tail k)) (Memᴰ.cases_cons j);
       }
-  scan-path I (miss {o = failed} h v w) c on held = tt
-  scan-path {m = m} I (miss {o = found p e} h v w) c on held =
-      let P = scan-path I w c (λ r i. on r (Memᴰ.tail i)) (λ r i. held r (Memᴰ.tail i)) in
+  scan_path I (miss {o = failed} h v w) c on held = tt
+  scan_path {m = m} I (miss {o = found p e} h v w) c on held =
+      let P = scan_path I w c (λ r i. on r (Memᴰ.tail i)) (λ r i. held r (Memᴰ.tail i)) in
       record {
         alternating = P.alternating;
         ends_free = P.ends_free;
-        unvisited = λ r i k. P.unvisited r i (visit-keeps v (partner m r) (Memᴰ.tail k));
+        unvisited = λ r i k. P.unvisited r i (visit_keeps v (partner m r) (Memᴰ.tail k));
       }
 
 -- a found path is augmenting, by columns that were not visited before
 pub visit_found : {n : ℕ} {col : Pattern} {m s t : List Col} {c : Col} {p : List Row} {e : Row} → Inside n col
     → Visit n col m s c t (found p e) → Augmenting n col m (c ∷ s) c p e
-visit_found I v = visit-path I v
+visit_found I v = visit_path I v
 
 -- ---- a failed search
 
@@ -167,9 +167,9 @@ scan_all : {n : ℕ} {col : Pattern} {m s t : List Col} {rs : List Row} → Scan
     → (r : Row) → Mem r rs → Mem (partner m r) t
 scan_all done r i = absurd (Memᴰ.not-nil i)
 scan_all {m = m} (pass h w) r i =
-    ⊎_elim (λ e. scan-keeps w (partner m r) (Memᴰ.cast (ap (partner m) e) h)) (λ j. scan_all w r j) (Memᴰ.cases_cons i)
+    ⊎_elim (λ e. scan_keeps w (partner m r) (Memᴰ.cast (ap (partner m) e) h)) (λ j. scan_all w r j) (Memᴰ.cases_cons i)
 scan_all {m = m} (miss h v w) r i =
-    ⊎_elim (λ e. scan-keeps w (partner m r) (visit-keeps v (partner m r) (Memᴰ.head (ap (partner m) e))))
+    ⊎_elim (λ e. scan_keeps w (partner m r) (visit_keeps v (partner m r) (Memᴰ.head (ap (partner m) e))))
     (λ j. scan_all w r j) (Memᴰ.cases_cons i)
 
 -- where the ending is a failure, every column of t is closed but for those of s
@@ -179,29 +179,29 @@ IfFailed n col m s t (found p e) = Unit {0}
 
 mutual
   -- what each visit, and each scan, says of a failure
-  visit-shut : {n : ℕ} {col : Pattern} {m s t : List Col} {c : Col} {o : Ending} → Visit n col m s c t o → IfFailed n col m s t o
-  visit-shut (free h) = tt
-  visit-shut (deep {o = found p e} h w) = tt
-  visit-shut {n} {col} {m} {s} {t} {c} (deep {o = failed} h w) = λ x i. ⊎_elim (entered x) inr (scan-shut w x i)
+  visit_shut : {n : ℕ} {col : Pattern} {m s t : List Col} {c : Col} {o : Ending} → Visit n col m s c t o → IfFailed n col m s t o
+  visit_shut (free h) = tt
+  visit_shut (deep {o = found p e} h w) = tt
+  visit_shut {n} {col} {m} {s} {t} {c} (deep {o = failed} h w) = λ x i. ⊎_elim (entered x) inr (scan_shut w x i)
     where
       entered : (x : Col) → Mem x (c ∷ s) → Mem x s ⊎ Closed n col m t x
       entered x j = ⊎_elim (λ e. inr (rw e (λ r k. (h r k, scan_all w r k)))) inl (Memᴰ.cases_cons j)
 
-  scan-shut : {n : ℕ} {col : Pattern} {m s t : List Col} {rs : List Row} {o : Ending} → Scan n col m s rs t o → IfFailed n col m s t o
-  scan-shut done = λ x i. inl i
-  scan-shut (pass h w) = scan-shut w
-  scan-shut (hit h v) = tt
-  scan-shut (miss {o = found p e} h v w) = tt
-  scan-shut {n} {col} {m} (miss {t = t} {u = u} {o = failed} h v w) = λ x i.
-      ⊎_elim (λ j. ⊎_elim inl (λ f. inr (grown x f)) (visit-shut v x j)) inr (scan-shut w x i)
+  scan_shut : {n : ℕ} {col : Pattern} {m s t : List Col} {rs : List Row} {o : Ending} → Scan n col m s rs t o → IfFailed n col m s t o
+  scan_shut done = λ x i. inl i
+  scan_shut (pass h w) = scan_shut w
+  scan_shut (hit h v) = tt
+  scan_shut (miss {o = found p e} h v w) = tt
+  scan_shut {n} {col} {m} (miss {t = t} {u = u} {o = failed} h v w) = λ x i.
+      ⊎_elim (λ j. ⊎_elim inl (λ f. inr (grown x f)) (visit_shut v x j)) inr (scan_shut w x i)
     where
       grown : (x : Col) → Closed n col m t x → Closed n col m u x
-      grown x f r k = ((f r k).0, scan-keeps w (partner m r) (f r k).1)
+      grown x f r k = ((f r k).0, scan_keeps w (partner m r) (f r k).1)
 
 -- every column that a failed search has added is closed
 pub visit_closed : {n : ℕ} {col : Pattern} {m s t : List Col} {c : Col} → Visit n col m s c t failed
     → (x : Col) → Mem x t → Mem x s ⊎ Closed n col m t x
-visit_closed v = visit-shut v
+visit_closed v = visit_shut v
 
 -- a column visited by way of row r has that row
 by_row : (n : ℕ) (m s : List Col) (r : Row) (x : Col) → r < n → Mem x (partner m r ∷ s) → Mem x s ⊎ Matched n (partner m) x
@@ -209,22 +209,22 @@ by_row n m s r x l i = ⊎_elim (λ e. inr (r, l, sym e)) inl (Memᴰ.cases_cons
 
 mutual
   -- every column that a search has added, but the first, has a row
-  pub visit-matched : {n : ℕ} {col : Pattern} {m s t : List Col} {c : Col} {o : Ending} → Inside n col → Visit n col m s c t o
+  pub visit_matched : {n : ℕ} {col : Pattern} {m s t : List Col} {c : Col} {o : Ending} → Inside n col → Visit n col m s c t o
       → (x : Col) → Mem x t → Mem x (c ∷ s) ⊎ Matched n (partner m) x
-  visit-matched I (free h) x i = inl i
-  visit-matched I (deep {c = c} h w) x i = scan-matched I w c (λ r j. j) x i
+  visit_matched I (free h) x i = inl i
+  visit_matched I (deep {c = c} h w) x i = scan_matched I w c (λ r j. j) x i
 
-  scan-matched : {n : ℕ} {col : Pattern} {m s t : List Col} {rs : List Row} {o : Ending} → Inside n col → Scan n col m s rs t o
+  scan_matched : {n : ℕ} {col : Pattern} {m s t : List Col} {rs : List Row} {o : Ending} → Inside n col → Scan n col m s rs t o
       → (c : Col) → ((r : Row) → Mem r rs → Entry col c r) → (x : Col) → Mem x t → Mem x s ⊎ Matched n (partner m) x
-  scan-matched I done c on x i = inl i
-  scan-matched I (pass h w) c on x i = scan-matched I w c (λ r j. on r (Memᴰ.tail j)) x i
-  scan-matched {n} {m = m} {s = s} I (hit {r = r} h v) c on x i =
+  scan_matched I done c on x i = inl i
+  scan_matched I (pass h w) c on x i = scan_matched I w c (λ r j. on r (Memᴰ.tail j)) x i
+  scan_matched {n} {m = m} {s = s} I (hit {r = r} h v) c on x i =
       let l : r < n = I.row_below c r (on r (Memᴰ.head refl)) in
-      ⊎_elim (by_row n m s r x l) inr (visit-matched I v x i)
-  scan-matched {n} {m = m} {s = s} I (miss {r = r} h v w) c on x i =
+      ⊎_elim (by_row n m s r x l) inr (visit_matched I v x i)
+  scan_matched {n} {m = m} {s = s} I (miss {r = r} h v w) c on x i =
       let l : r < n = I.row_below c r (on r (Memᴰ.head refl)) in
-      let rest = scan-matched I w c (λ q j. on q (Memᴰ.tail j)) x i in
-      ⊎_elim (λ j. ⊎_elim (by_row n m s r x l) inr (visit-matched I v x j)) inr rest
+      let rest = scan_matched I w c (λ q j. on q (Memᴰ.tail j)) x i in
+      ⊎_elim (λ j. ⊎_elim (by_row n m s r x l) inr (visit_matched I v x j)) inr rest
 
 -- what a failed search from a column without a row leaves
 pub visit_failed : {n : ℕ} {col : Pattern} {m h : List Col} {c : Col} → Inside n col → c < n → Unmatched n (partner m) c
@@ -232,10 +232,10 @@ pub visit_failed : {n : ℕ} {col : Pattern} {m h : List Col} {c : Col} → Insi
 visit_failed {n} {col} {m} {h} {c} I l bare v =
     record {
       below = l;
-      start = mem_elem c h (visit-keeps v c (Memᴰ.head refl));
+      start = mem_elem c h (visit_keeps v c (Memᴰ.head refl));
       unmatched = bare;
       closed = λ x r k j e i. let t = shut x e r i in (t.0, mem_elem (partner m r) h t.1);
-      matched = λ x k e ne. ⊎_elim (λ j. absurd (ne (Memᴰ.eq_of_singleton j))) (λ t. t) (visit-matched I v x (elem_mem x h e));
+      matched = λ x k e ne. ⊎_elim (λ j. absurd (ne (Memᴰ.eq_of_singleton j))) (λ t. t) (visit_matched I v x (elem_mem x h e));
     }
   where
     shut : (x : Col) → elem x h ≡ true → Closed n col m h x

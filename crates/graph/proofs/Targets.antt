@@ -45,8 +45,8 @@ pub both_is : {n : ℕ} {col : Pattern} → Inside n col → (m : List Col) (c d
 both_is inside m = both_carried (targets_is inside m)
 
 -- a perfect matching's targets are below n
-pub targets-within : {n : ℕ} {col : Pattern} → Inside n col → (m : List Col) → Perfect n col (partner m) → Within n (targets col m)
-targets-within {n} {col} inside m perfect c d i =
+pub targets_within : {n : ℕ} {col : Pattern} → Inside n col → (m : List Col) → Perfect n col (partner m) → Within n (targets col m)
+targets_within {n} {col} inside m perfect c d i =
     let t = Memᴰ.of_map (partner m) (col c) i in
     let row : t.0 < n = inside.row_below c t.0 t.1 in
     (inside.col_below c t.0 t.1, subst (λ x. x < n) t.2 (perfect.inside t.0 row))
@@ -55,4 +55,4 @@ targets-within {n} {col} inside m perfect c d i =
 pub matching_form : {n : ℕ} {col : Pattern} → Inside n col → (m : List Col) → Perfect n col (partner m)
     → BlockForm n (Points n col (partner m)) (blocks n (targets col m))
 matching_form {n} {col} inside m perfect =
-    form_carried (targets_is inside m) (blocks_form n (targets col m) (targets-within inside m perfect))
+    form_carried (targets_is inside m) (blocks_form n (targets col m) (targets_within inside m perfect))

@@ -15,7 +15,7 @@ use native.Mathlib.Omega.{arith}
 use Rattle.graph.specs.Lists.{Mem, Once, elem}
 use Rattle.graph.specs.Reachability.{Reach, here, step}
 use Rattle.graph.specs.Walks.{Walked, enter, finish, each, visit}
-use Rattle.graph.proofs.Lists.{elem_mem, not_elem, mem_snoc, left, left_mono, left-enter, left-none}
+use Rattle.graph.proofs.Lists.{elem_mem, not_elem, mem_snoc, left, left_mono, left_enter, left_none}
 use Rattle.graph.proofs.Reachability.{reach_to}
 
 -- b is a child of a
@@ -163,7 +163,7 @@ visits n zero w [] inside room below = stop
 visits n zero w (c ∷ cs) inside room below = skip old (visits n zero w cs inside room (λ b i. below b (Memᴰ.tail i)))
   where
     old : Mem c w.entered
-    old = elem_mem c w.entered (left-none n c w.entered (below c (Memᴰ.head refl)) (omega arith))
+    old = elem_mem c w.entered (left_none n c w.entered (below c (Memᴰ.head refl)) (omega arith))
 visits n (suc depth) w [] inside room below = stop
 visits {kids} n (suc depth) w (c ∷ cs) inside room below =
     go (visits n depth (enter c w) (kids c) inside) (λ u l. visits n (suc depth) u cs inside l (λ b i. below b (Memᴰ.tail i)))
@@ -178,7 +178,7 @@ visits {kids} n (suc depth) w (c ∷ cs) inside room below =
         → Walks kids w (c ∷ cs) (each (visit kids (suc depth)) cs (cond b w (finish c inner)))
     go down on true e = skip (elem_mem c w.entered e) (on w room)
     go down on false e =
-        let less : left n w.entered ≡ suc (left n (c ∷ w.entered)) = left-enter n c w.entered (below c (Memᴰ.head refl)) e in
+        let less : left n w.entered ≡ suc (left n (c ∷ w.entered)) = left_enter n c w.entered (below c (Memᴰ.head refl)) e in
         let under : Walks kids (enter c w) (kids c) inner = down (omega arith) (inside c) in
         let keeps : (x : ℕ) → Mem x w.entered → Mem x inner.entered = λ x i. stays_entered under x (Memᴰ.tail i) in
         let more : left n inner.entered ≤ left n w.entered = left_mono n w.entered inner.entered keeps in

@@ -17,7 +17,7 @@ use Rattle.matching.proofs.Stamps.{length-stamped}
 use Rattle.matching.proofs.Stack.{Goal}
 use Rattle.matching.proofs.Walk.{Slices, Stage, entering, failing, finding, Walk, Scanning}
 use Rattle.matching.proofs.Walk.{is_visited, few_visited}
-use Rattle.matching.proofs.Turns.{turn_free, turn-none, turn-again, turn_back, turn_on, open_new}
+use Rattle.matching.proofs.Turns.{turn_free, turn_none, turn_again, turn_back, turn_on, open_new}
 use Rattle.matching.proofs.Falls.{weight, within, free_falls, none_falls, again_falls, back_falls, on_falls}
 
 -- ---- the step on top
@@ -80,7 +80,7 @@ pub arm_none : {g : Goal} {mark depth : ℕ} {v₀ h₀ cs₀ ps₀ v h cs ps r 
     → length rs ≤ q → v' ≡ set v c mark → h' ≡ set h₁ c q → Scanning g mark v₀ h₀ cs₀ ps₀ v' h' cs ps r₁ hit₁ (depth - 1) 0
 arm_none W l H ne P z lq ev eh =
     rw (ev, eh, P.cheap_same, P.matching_same, P.found_same, H.column)
-    (turn-none (at_top W l) (rw H.column at ne) (rw (H.rows, z, H.column) at (stop_none P lq)) (rw (H.rows, H.column) at lq))
+    (turn_none (at_top W l) (rw H.column at ne) (rw (H.rows, z, H.column) at (stop_none P lq)) (rw (H.rows, H.column) at lq))
 
 -- a visit failed
 pub arm_again : {g : Goal} {mark depth : ℕ} {v₀ h₀ cs₀ ps₀ v h cs ps r : List ℕ} {hit : Bool} {c : Col} {rs : List Row} {from : ℕ}
@@ -88,7 +88,7 @@ pub arm_again : {g : Goal} {mark depth : ℕ} {v₀ h₀ cs₀ ps₀ v h cs ps r
     → from ≡ get_or ps (depth - 1) 0 + 1 → Scanning g mark v₀ h₀ cs₀ ps₀ v h cs ps r hit (depth - 1) from
 arm_again {g} {mark} {depth} {v₀} {h₀} {cs₀} {ps₀} {v} {h} {cs} {ps} {r} {hit} {from = from} W l H e f z =
     let y : suc (get_or ps (depth - 1) 0) ≡ from = omega arith in
-    subst (λ p. Scanning g mark v₀ h₀ cs₀ ps₀ v h cs ps r hit (depth - 1) p) y (turn-again (at_top W l) (rw H.column at e) f)
+    subst (λ p. Scanning g mark v₀ h₀ cs₀ ps₀ v h cs ps r hit (depth - 1) p) y (turn_again (at_top W l) (rw H.column at e) f)
 
 -- a visit found a path
 pub arm_back : {g : Goal} {mark depth : ℕ} {v₀ h₀ cs₀ ps₀ v h cs ps r : List ℕ} {hit : Bool} {c : Col} {rs : List Row} {p : ℕ}

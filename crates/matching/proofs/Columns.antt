@@ -25,7 +25,7 @@ use Rattle.matching.specs.Parts.{Fresh, EndsAt, SameBeyond}
 use Rattle.matching.specs.Search.{stamped, Cheap, is_found, moved, SearchReady, SearchEnds}
 use Rattle.matching.proofs.Front.{agree_take, search_agree, take-moved, drop-moved}
 use Rattle.matching.proofs.Matching.{match_found, match_failed}
-use Rattle.matching.proofs.Ready.{inside-or, short-or}
+use Rattle.matching.proofs.Ready.{inside_or, short_or}
 use Rattle.matching.proofs.Searching.{visited_below}
 use Rattle.matching.proofs.Stamps.{set_keeps, stamped_is, Kept, kept_start}
 
@@ -237,7 +237,7 @@ going_end {n} {col} {c} {v = v} {m = m} G l =
 pub searches_start : {size : ℕ} {starts rows visited cheap scol sat row2col : List ℕ} → Shaped size starts rows → RowsBelow rows size
     → Fresh size visited cheap scol sat row2col
     → Going size (column_or starts rows none []) 0 visited cheap scol sat row2col visited cheap scol sat row2col
-searches_start S low F = going_start (inside-or none [] S low (λ k l. absurd (omega arith)) (inr refl)) (short-or none [] S (omega
+searches_start S low F = going_start (inside_or none [] S low (λ k l. absurd (omega arith)) (inr refl)) (short_or none [] S (omega
     arith)) F
 
 pub ends_unedited : {size : ℕ} {starts rows : List ℕ} (visited row2col : List ℕ) (r : ℕ) → Shaped size starts rows

@@ -11,9 +11,9 @@ use lib.Dec.{eqb}
 use lib.ListN.{get_or, set}
 use lib.Seq.{get_or-set_same}
 use Rattle.graph.specs.Matchings.{Col}
-use Rattle.graph.proofs.Lists.{left, left-enter, elem_not}
+use Rattle.graph.proofs.Lists.{left, left_enter, elem_not}
 use Rattle.matching.specs.Parts.{col_at, Advance, back, down}
-use Rattle.matching.proofs.Stamps.{unstamped, unstamped-left}
+use Rattle.matching.proofs.Stamps.{unstamped, unstamped_left}
 use Rattle.matching.proofs.Stack.{Goal}
 use Rattle.matching.proofs.Walk.{Slices, Walk, Scanning, at_new, has_stamp}
 use Rattle.graph.proofs.Search.{AllBelow}
@@ -52,11 +52,11 @@ fewer {g} {mark} {v₀} {s = s} {v = v} S c low ne =
     let below : AllBelow n (c ∷ s) = λ x i. ⊎_elim (λ e. rw e low) (S.below x) (Memᴰ.cases_cons i) in
     let before : unstamped n mark v ≡ left n s =
     subst (λ x. unstamped n mark x ≡ left n s) (sym S.stamps)
-    (unstamped-left n mark s v₀ S.setting.stamps_long S.setting.unstamped S.below) in
+    (unstamped_left n mark s v₀ S.setting.stamps_long S.setting.unstamped S.below) in
     let after : unstamped n mark (set v c mark) ≡ left n (c ∷ s) =
     subst (λ x. unstamped n mark (set x c mark) ≡ left n (c ∷ s)) (sym S.stamps)
-    (unstamped-left n mark (c ∷ s) v₀ S.setting.stamps_long S.setting.unstamped below) in
-    omega (arith, before, after, left-enter n c s low (elem_not c s (λ i. ne (has_stamp S c i))))
+    (unstamped_left n mark (c ∷ s) v₀ S.setting.stamps_long S.setting.unstamped below) in
+    omega (arith, before, after, left_enter n c s low (elem_not c s (λ i. ne (has_stamp S c i))))
 
 -- a first visit that finds a free row
 pub free_falls : {g : Goal} {mark k : ℕ} {v₀ h₀ cs₀ ps₀ v h cs ps r : List ℕ} {hit : Bool}

@@ -14,7 +14,7 @@ use Rattle.graph.specs.Paths.{Ending, failed, found, augment}
 use Rattle.graph.proofs.Matchings.{Matched, Unmatched, full_perfect}
 use Rattle.graph.proofs.Hall.{hall_set_refuses}
 use Rattle.graph.proofs.Paths.{augmented}
-use Rattle.graph.proofs.Search.{Visit, visit-keeps, visit_found, visit_refuses}
+use Rattle.graph.proofs.Search.{Visit, visit_keeps, visit_found, visit_refuses}
 use Rattle.sparse.specs.Limits.{none}
 use Rattle.matching.specs.Matching.{search, Verdict, accepted, refused, match_from, matching, Matchable}
 use Rattle.matching.proofs.Searching.{search_visits, visited_below}
@@ -72,7 +72,7 @@ begun_refused n col c m I l B f =
     let v : Visit n col m [] c (search n col m n [] c).visited failed = rw f at (search_visits n col m c l) in
     record {
       below = l;
-      among = visit-keeps v c (Memᴰ.head refl);
+      among = visit_keeps v c (Memᴰ.head refl);
       visited_below = visited_below n col m c l;
       hall_set = (visit_refuses I B.partial l (B.unmatched c (omega arith) l) v).hall_set;
     }

@@ -22,7 +22,7 @@ use Rattle.sparse.specs.Refusals.{first_refusal, early, one_short, Roomy, repeat
 use Rattle.sparse.specs.declared.Checked.{Checked}
 use Rattle.sparse.specs.declared.Checked.TheVariants as checked
 use Rattle.sparse.specs.declared.Refusal.{Refusal}
-use Rattle.sparse.proofs.Buffers.{filled_at, front-filled, zero_below}
+use Rattle.sparse.proofs.Buffers.{filled_at, front_filled, zero_below}
 use Rattle.sparse.proofs.Early.{Early, early_passed, early_passes, early_number, repeats_number}
 use Rattle.sparse.proofs.Matrix.{inside, column_once}
 use Rattle.sparse.proofs.Passing.{repeats_pass}
@@ -57,10 +57,10 @@ given_once G = repeats_pass G.valid.shaped G.valid.once
 -- ---- the exits of the outcome
 
 -- refused by 1, 2, 5 or 3: nothing has changed
-pub early-outcome : (size : ℕ) (starts : List ℕ) (rows : List Row) (l : Lent) (r : Refusal)
+pub early_outcome : (size : ℕ) (starts : List ℕ) (rows : List Row) (l : Lent) (r : Refusal)
     → first_refusal (early size starts rows (buffers size l)) ≡ checked.Refused r → ended (Refused r) l ≡ outcome size starts rows l
 unfolding outcome
-early-outcome size starts rows l r e = rw e
+early_outcome size starts rows l r e = rw e
 
 -- refused by 4: workspace and stack are zero
 pub repeat_outcome : (size : ℕ) (starts : List ℕ) (rows : List Row) (l : Lent) (r : Refusal)
@@ -125,7 +125,7 @@ pub hand_accepted : (size end : ℕ) (visited row2col hall hall' : List ℕ) (l 
     → EndsAt size visited row2col end v → SameBeyond size l.row2col row2col → hall ≡ l.hall → hall' ≡ zeroed size hall
     → ended Accepted (cleared size l row2col hall') ≡ handed_out size l v
 hand_accepted size end visited row2col hall hall' l (accepted m) long e E same k h =
-    rw (h, k, front-filled size m l.row2col row2col long E.1 same)
+    rw (h, k, front_filled size m l.row2col row2col long E.1 same)
 hand_accepted size end visited row2col hall hall' l (refused c seen) long e E same k h = absurd (omega (arith, E.0, E.1))
 
 -- refused: the matching is zero, and the stamps tell the marks
@@ -173,9 +173,9 @@ mark_is : (b : Bool) → eqb (bit b) 1 ≡ b
 mark_is true = refl
 mark_is false = refl
 
-mark-bit : (b : Bool) → (bit b ≡ 1) ⊎ (bit b ≡ 0)
-mark-bit true = inl refl
-mark-bit false = inr refl
+mark_bit : (b : Bool) → (bit b ≡ 1) ⊎ (bit b ≡ 0)
+mark_bit true = inl refl
+mark_bit false = inr refl
 
 -- the marks of the visited columns are those of a Hall set
 pub hall_marks : {n : ℕ} {col : Pattern} {c : Col} {seen : List Col} (xs : List ℕ) → Deficient n col c seen
@@ -184,7 +184,7 @@ unfolding marks_of
 hall_marks {n} {col} {c} {seen} xs D = record {
   below = D.below;
   failed = mark c D.below ∙ ap bit (mem_elem c seen D.among);
-  one_or_zero = λ d l. rw (mark d l) (mark-bit (elem d seen));
+  one_or_zero = λ d l. rw (mark d l) (mark_bit (elem d seen));
   hall_set = hall_set_agree (λ d. eqb (get_or (filled (table (λ d. bit (elem d seen)) n) xs) d 0) 1) D.hall_set
       (λ d l. rw (mark d l) (mark_is (elem d seen)));
 }
@@ -211,8 +211,8 @@ handed_means size starts rows l (refused c seen) G D = record {
   deficient = λ e. hall_marks l.hall (D.deficient c seen refl);
 }
 
-small-none : {n : ℕ} → n ≤ max_size → n ≤ none
-small-none l = omega arith
+small_none : {n : ℕ} → n ≤ max_size → n ≤ none
+small_none l = omega arith
 
 pub verdict_means : (size : ℕ) (starts : List ℕ) (rows : List Row) (l after : Lent) (answer : MatchingAnswer)
     → first_refusal (early size starts rows (buffers size l)) ≡ checked.Passed → repeated_row size starts rows ≡ checked.Passed
@@ -220,7 +220,7 @@ pub verdict_means : (size : ℕ) (starts : List ℕ) (rows : List Row) (l after 
 verdict_means size starts rows l after answer p e f =
     let P = early_passed size starts rows (buffers size l) p in
     let G = given P e in
-    let D = matching_decides size (column starts rows) (inside P.shaped P.below) (small-none P.shaped.small) in
+    let D = matching_decides size (column starts rows) (inside P.shaped P.below) (small_none P.shaped.small) in
     let a : after ≡ (handed_out size l (matching size (column starts rows))).after = ap (λ (o : Outcome). o.after) f in
     let b : answer ≡ (handed_out size l (matching size (column starts rows))).answer = ap (λ (o : Outcome). o.answer) f in
     rw (a, b) (handed_means size starts rows l (matching size (column starts rows)) G D)

@@ -12,10 +12,10 @@ use lib.ListN.{length}
 use Rattle.graph.specs.Lists.{Mem, Once, elem, keep}
 use Rattle.graph.specs.Matchings.{Row, Col, Pattern, Inside, partner}
 use Rattle.graph.specs.Paths.{Ending, failed, found, augment}
-use Rattle.graph.proofs.Lists.{elem_mem, elem_not, not_elem, left, left_le, left_mono, left-enter, left-none}
+use Rattle.graph.proofs.Lists.{elem_mem, elem_not, not_elem, left, left_le, left_mono, left_enter, left_none}
 use Rattle.graph.proofs.Paths.{augment_stays}
 use Rattle.graph.proofs.Search.{FirstFree, now, later, NoneFree, Visit, free, deep, Scan, done, pass, hit, miss}
-use Rattle.graph.proofs.Search.{visit-keeps, visit-once, visit-below, visit_found}
+use Rattle.graph.proofs.Search.{visit_keeps, visit_once, visit_below, visit_found}
 use Rattle.matching.specs.Matching.{free_rows, Searched, scan, search}
 
 -- ---- the free rows of a list
@@ -31,10 +31,10 @@ unfolding keep
 matched_cons n m r rs h = rw (lt-leb n (partner m r) h)
 
 -- matched rows in front may be skipped
-pub matched-skip : (n : ℕ) (m : List Col) (qs rs : List Row) → NoneFree n m qs → free_rows n m (qs ++ rs) ≡ free_rows n m rs
-matched-skip n m [] rs held = refl
-matched-skip n m (q ∷ qs) rs held =
-    rw (matched_cons n m q (qs ++ rs) (held q (Memᴰ.head refl))) (matched-skip n m qs rs (λ r i. held r (Memᴰ.tail i)))
+pub matched_skip : (n : ℕ) (m : List Col) (qs rs : List Row) → NoneFree n m qs → free_rows n m (qs ++ rs) ≡ free_rows n m rs
+matched_skip n m [] rs held = refl
+matched_skip n m (q ∷ qs) rs held =
+    rw (matched_cons n m q (qs ++ rs) (held q (Memᴰ.head refl))) (matched_skip n m qs rs (λ r i. held r (Memᴰ.tail i)))
 
 -- the first of the free rows is the first free row
 pub free_first : (n : ℕ) (m : List Col) (rs : List Row) (e : Row) (es : List Row) → free_rows n m rs ≡ e ∷ es → FirstFree n m e rs
@@ -87,7 +87,7 @@ scan_is n col m visit k F s (r ∷ rs) l held =
     late ih e (found p x) f v = rw (e, scan, f) (hit (not_elem (partner m r) s e) v)
     late ih e failed f v =
         let t = (visit s (partner m r)).visited in
-        let fewer : left n t ≤ left n s = left_mono n s t (λ x i. visit-keeps v x (Memᴰ.tail i)) in
+        let fewer : left n t ≤ left n s = left_mono n s t (λ x i. visit_keeps v x (Memᴰ.tail i)) in
         rw (e, scan, f) (miss (not_elem (partner m r) s e) v (ih t (omega arith)))
 
     go : ((t : List Col) → left n t ≤ k → Scans n col m visit t rs) → (b : Bool) → elem (partner m r) s ≡ b → Scans n col m visit s (r ∷ rs)
@@ -98,7 +98,7 @@ scan_is n col m visit k F s (r ∷ rs) l held =
 -- a search with depth k makes such visits
 pub search_is : (n : ℕ) (col : Pattern) (m : List Col) (k : ℕ) → Follows n col m (search n col m k) k
 unfolding search
-search_is n col m zero s c l new h = absurd (new (elem_mem c s (left-none n c s l (omega arith))))
+search_is n col m zero s c l new h = absurd (new (elem_mem c s (left_none n c s l (omega arith))))
 search_is n col m (suc k) s c l new h = go (search_is n col m k) (free_rows n m (col c)) refl
   where
     go : Follows n col m (search n col m k) k → (rs : List Row) → free_rows n m (col c) ≡ rs
@@ -106,7 +106,7 @@ search_is n col m (suc k) s c l new h = go (search_is n col m k) (free_rows n m 
     go ih (e ∷ es) f = rw (f, search) (free (free_first n m (col c) e es f))
     go ih [] f =
         let held = free_none n m (col c) f in
-        let fewer : left n s ≡ suc (left n (c ∷ s)) = left-enter n c s l (elem_not c s new) in
+        let fewer : left n s ≡ suc (left n (c ∷ s)) = left_enter n c s l (elem_not c s new) in
         rw (f, search) (deep held (scan_is n col m (search n col m k) k ih (c ∷ s) (col c) (omega arith) held))
 
 -- ---- a search with no column visited before
@@ -117,12 +117,12 @@ search_visits n col m c l = search_is n col m n [] c l Memᴰ.not-nil (left_le n
 
 -- it visits no column twice
 pub visited_once : (n : ℕ) (col : Pattern) (m : List Col) (c : Col) → c < n → Once (search n col m n [] c).visited
-visited_once n col m c l = visit-once (search_visits n col m c l) tt Memᴰ.not-nil
+visited_once n col m c l = visit_once (search_visits n col m c l) tt Memᴰ.not-nil
 
 -- it visits only columns below n
 pub visited_below : (n : ℕ) (col : Pattern) (m : List Col) (c : Col) → c < n
     → (d : Col) → Mem d (search n col m n [] c).visited → d < n
-visited_below n col m c l = visit-below (search_visits n col m c l) l (λ d i. absurd (Memᴰ.not-nil i))
+visited_below n col m c l = visit_below (search_visits n col m c l) l (λ d i. absurd (Memᴰ.not-nil i))
 
 -- a matched row stays matched when the matching is moved along the path found, so rows once seen matched may be skipped from then on
 pub stays_matched : (n : ℕ) (col : Pattern) (m : List Col) (c : Col) (p : List Row) (e : Row) → Inside n col → length m ≡ n → c < n

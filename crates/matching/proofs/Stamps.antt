@@ -71,9 +71,9 @@ abbrev pub unstamped : ℕ → ℕ → List ℕ → ℕ
 unstamped n mark v = count (λ c. not (eqb (get_or v c 0) mark)) n
 
 -- those are the columns that the list leaves out
-pub unstamped-left : (n mark : ℕ) (s : List Col) (v : List ℕ) → n ≤ length v → Unstamped n mark v → AllBelow n s
+pub unstamped_left : (n mark : ℕ) (s : List Col) (v : List ℕ) → n ≤ length v → Unstamped n mark v → AllBelow n s
     → unstamped n mark (stamped mark s v) ≡ left n s
-unstamped-left n mark s v l new b =
+unstamped_left n mark s v l new b =
     count_ext (λ c. not (eqb (get_or (stamped mark s v) c 0) mark)) (λ c. not (elem c s)) n (λ c k. go c k (elem c s) refl)
   where
     go : (c : Col) → c < n → (t : Bool) → elem c s ≡ t → not (eqb (get_or (stamped mark s v) c 0) mark) ≡ not (elem c s)

@@ -81,11 +81,11 @@ turn_free {g} {k = k} {h = h} {cs = cs} {ps = ps} {r = r} {q = q} W ne F l =
     }
 
 -- it has none: its rows are to be scanned
-pub turn-none : {g : Goal} {mark k : ℕ} {v₀ h₀ cs₀ ps₀ v h cs ps r : List ℕ} {hit : Bool} {q : ℕ}
+pub turn_none : {g : Goal} {mark k : ℕ} {v₀ h₀ cs₀ ps₀ v h cs ps r : List ℕ} {hit : Bool} {q : ℕ}
     → (W : Walk g mark v₀ h₀ cs₀ ps₀ v h cs ps r hit (suc k)) → get_or v (get_or cs k 0) 0 ≢ mark
     → FreePlace g.n r (g.col (get_or cs k 0)) (get_or h (get_or cs k 0) 0) q → length (g.col (get_or cs k 0)) ≤ q
     → Scanning g mark v₀ h₀ cs₀ ps₀ (set v (get_or cs k 0) mark) (set h (get_or cs k 0) q) cs ps r hit k 0
-turn-none {g} {k = k} {h = h} {cs = cs} {ps = ps} {r = r} {q = q} W ne F l =
+turn_none {g} {k = k} {h = h} {cs = cs} {ps = ps} {r = r} {q = q} W ne F l =
     let c = get_or cs k 0 in
     let E = at_new W ne in
     let F' : FreePlace g.n g.m (g.col c) (get_or h c 0) q = subst (λ x. FreePlace g.n x (g.col c) (get_or h c 0) q) E.same F in
@@ -105,10 +105,10 @@ turn-none {g} {k = k} {h = h} {cs = cs} {ps = ps} {r = r} {q = q} W ne F l =
 -- ---- a visit once more
 
 -- the visit to the row's column failed: the rows behind it are to be scanned
-pub turn-again : {g : Goal} {mark k : ℕ} {v₀ h₀ cs₀ ps₀ v h cs ps r : List ℕ} {hit : Bool}
+pub turn_again : {g : Goal} {mark k : ℕ} {v₀ h₀ cs₀ ps₀ v h cs ps r : List ℕ} {hit : Bool}
     → (W : Walk g mark v₀ h₀ cs₀ ps₀ v h cs ps r hit (suc k)) → get_or v (get_or cs k 0) 0 ≡ mark → hit ≡ false
     → Scanning g mark v₀ h₀ cs₀ ps₀ v h cs ps r hit k (suc (get_or ps k 0))
-turn-again {g} {k = k} {cs = cs} {ps = ps} W e f =
+turn_again {g} {k = k} {cs = cs} {ps = ps} W e f =
     let F = at_failed W e f in
     let R = F.rest in
     record {

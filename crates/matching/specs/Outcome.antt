@@ -6,7 +6,7 @@ use Rattle.graph.specs.Matchings.{Col, Row, Pattern, Perfect, partner}
 use Rattle.graph.specs.Hall.{HallSet}
 use Rattle.sparse.specs.Matrix.{column, Valid}
 use Rattle.sparse.specs.Buffers.{zeroed, filled}
-use Rattle.sparse.specs.Refusals.{first_refusal, onCheck, Buffer, buffer, Roomy, early, repeated_row}
+use Rattle.sparse.specs.Refusals.{first_refusal, on_check, Buffer, buffer, Roomy, early, repeated_row}
 use Rattle.sparse.specs.declared.Refusal.{Refusal}
 use Rattle.matching.specs.Matching.{Verdict, accepted, refused, matching, Matchable}
 use Rattle.matching.specs.declared.diagonal.MatchingAnswer.{MatchingAnswer}
@@ -80,8 +80,8 @@ handed_out size l (refused c visited) =
 -- for any input: 1, 2, 5 and 3 change nothing; 4 leaves workspace and stack zero; else the rule's verdict is handed out
 unfoldable pub outcome : ℕ → List ℕ → List Row → Lent → Outcome
 outcome size starts rows l =
-    onCheck (first_refusal (early size starts rows (buffers size l))) (λ (r : Refusal). ended (Refused r) l)
-    (onCheck (repeated_row size starts rows) (λ (r : Refusal). ended (Refused r) (cleared size l l.row2col l.hall))
+    on_check (first_refusal (early size starts rows (buffers size l))) (λ (r : Refusal). ended (Refused r) l)
+    (on_check (repeated_row size starts rows) (λ (r : Refusal). ended (Refused r) (cleared size l l.row2col l.hall))
     (handed_out size l (matching size (column starts rows))))
 
 -- ---- the meaning

@@ -22,13 +22,13 @@ use Rattle.matching.specs.Parts.{EndsAt, SameBeyond}
 use Rattle.matching.specs.Search.{Unstamped, stamped, is_found, moved, SearchReady, SearchEnds}
 use Rattle.matching.proofs.Columns.{visited_beyond, matching_beyond}
 use Rattle.matching.proofs.Front.{agree_take, search_agree, take-moved}
-use Rattle.matching.proofs.Ready.{short-or}
+use Rattle.matching.proofs.Ready.{short_or}
 use Rattle.matching.proofs.Searching.{visited_below}
 use Rattle.matching.proofs.Stamps.{stamped_is}
 use Rattle.rematching.specs.Checks.{Editable}
 use Rattle.rematching.specs.Parts.{Unused}
 use Rattle.rematching.specs.Rematching.{rematching}
-use Rattle.rematching.proofs.Rematching.{rematching_found, rematching_failed, perfect_take, edited-inside}
+use Rattle.rematching.proofs.Rematching.{rematching_found, rematching_failed, perfect_take, edited_inside}
 
 -- ---- the former row
 
@@ -60,8 +60,8 @@ pub edit_ready : {size : ℕ} {starts rows new visited cheap scol sat row2col : 
     → Unused size visited cheap scol sat row2col → length m ≡ length row2col
     → SearchReady size (column_or starts rows e new) m e (e + 1) visited cheap scol sat
 edit_ready {new = new} {e = e} m S low E U k = record {
-  inside = edited-inside e new S low E.new_below E.below;
-  short = short-or e new S (omega (arith, E.few));
+  inside = edited_inside e new S low E.new_below E.below;
+  short = short_or e new S (omega (arith, E.few));
   below = E.below;
   unstamped = λ d l z. omega (arith, U.unvisited d l);
   sound = λ d l j i. absurd (omega (arith, U.unlooked d l));
@@ -158,7 +158,7 @@ pub leaves_found : {size : ℕ} {starts rows new v₀ h₀ v h m m₁ m' : List 
     → Leaves size (column_or starts rows e new) e size v₀ h₀ m v h m'
 leaves_found {size} {new = new} {m = m} {e = e} row S low D f g E a =
     let F = as_freed m row true f g a E in
-    let I = edited-inside e new S low D.new_below D.below in
+    let I = edited_inside e new S low D.new_below D.below in
     record {
       ends = edit_found m I D.perfect D.below F;
       kept = λ l. absurd (omega arith);
@@ -175,7 +175,7 @@ pub leaves_failed : {size : ℕ} {starts rows new v₀ h₀ s₀ a₀ v h m m₁
     → Leaves size (column_or starts rows e new) e e v₀ h₀ m v h m''
 leaves_failed {size} {new = new} {m = m} {m' = m'} {m'' = m''} {e = e} row S low D U f g E a b =
     let F = as_freed m row false f g a E in
-    let I = edited-inside e new S low D.new_below D.below in
+    let I = edited_inside e new S low D.new_below D.below in
     let same : m'' ≡ m = b ∙ ap (λ (r : Row). set m' r e) f ∙ edit_restored m D.perfect D.below F in
     record {
       ends = edit_failed m m'' I D.perfect D.below U.visited_long (λ d l z. omega (arith, U.unvisited d l)) F;

@@ -153,7 +153,7 @@ pub record_more : {n : ℕ} {col : Pattern} {m q₀ q q' : List ℕ} {r c : ℕ}
 record_more {n} {col} {m} {q₀} {q} {q'} {r} {c} R long l ec ok eq = record {
   to = omega arith;
   suits = more;
-  kept = rw eq (kept_set c r c-below R.kept);
+  kept = rw eq (kept_set c r c_below R.kept);
   placed = λ j k. placed j k (ℕ_discrete j r);
   others = λ d k h. rw eq
       (get_or-set_other q c d r 0 (λ z. h r (omega arith) (sym ec ∙ sym z)) ∙ R.others d k (λ j i. h j (omega arith)));
@@ -162,11 +162,11 @@ record_more {n} {col} {m} {q₀} {q} {q'} {r} {c} R long l ec ok eq = record {
     more : Suits n col m (r + 1)
     more = below_more _ r R.suits ok
 
-    c-below : c < n
-    c-below = rw ec (suited n col m r ok).below
+    c_below : c < n
+    c_below = rw ec (suited n col m r ok).below
 
     placed : (j : Row) → j < r + 1 → Dec (j ≡ r) → get_or q' (partner m j) 0 ≡ j
-    placed j k (yes e) = rw (eq, e, ← ec) (get_or-set_same q c r 0 (omega (arith, R.kept.long, c-below)))
+    placed j k (yes e) = rw (eq, e, ← ec) (get_or-set_same q c r 0 (omega (arith, R.kept.long, c_below)))
     placed j k (no e) =
         let other : partner m j ≢ c = λ z. e (suits_once n col m (r + 1) more (omega arith) j r k (omega arith) (z ∙ ec)) in
         rw eq (get_or-set_other q c (partner m j) r 0 other ∙ R.placed j (omega arith))

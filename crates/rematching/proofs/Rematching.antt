@@ -15,15 +15,15 @@ use Rattle.graph.proofs.Edits.{Rematched, edit_refused, edit_accepted}
 use Rattle.graph.proofs.Hall.{hall_set_refuses}
 use Rattle.graph.proofs.Matchings.{perfect_agree, row_of}
 use Rattle.graph.proofs.Paths.{path_agree, path_end, path_rows, augment_other, length-augment}
-use Rattle.graph.proofs.Search.{Visit, visit-keeps}
+use Rattle.graph.proofs.Search.{Visit, visit_keeps}
 use Rattle.sparse.specs.Buffers.{filled}
 use Rattle.sparse.specs.Limits.{none}
 use Rattle.sparse.specs.Matrix.{column_or, Shaped, RowsBelow}
-use Rattle.sparse.proofs.Buffers.{front-filled}
+use Rattle.sparse.proofs.Buffers.{front_filled}
 use Rattle.matching.specs.Matching.{search, accepted, refused}
 use Rattle.matching.proofs.Front.{agree_take, take-augment, drop-augment}
 use Rattle.matching.proofs.Matching.{Deficient, Decides}
-use Rattle.matching.proofs.Ready.{inside-or}
+use Rattle.matching.proofs.Ready.{inside_or}
 use Rattle.matching.proofs.Searching.{search_visits, visited_below}
 use Rattle.rematching.specs.Rematching.{rematching, Rerouted}
 
@@ -58,7 +58,7 @@ failed_deficient {n} {col} {e} m new small size M l I f =
     rw f at (search_visits n (edited col e new) (freed n m e none) e l) in
     record {
       below = l;
-      among = visit-keeps v e (Memᴰ.head refl);
+      among = visit_keeps v e (Memᴰ.head refl);
       visited_below = visited_below n (edited col e new) (freed n m e none) e l;
       hall_set = (edit_refused m new none size M l small I v).hall_set;
     }
@@ -105,9 +105,9 @@ rematching_decides {n} {col} {e} m new small size M l I = go (search n (edited c
         rw (rematching_failed n (edited col e new) m e f) (refused_decides (failed_deficient m new small size M l I f))
 
 -- it refuses at the edited column only
-pub rematching-place : (n : ℕ) (col : Pattern) (m : List Col) (e c : Col) (seen : List Col)
+pub rematching_place : (n : ℕ) (col : Pattern) (m : List Col) (e c : Col) (seen : List Col)
     → rematching n col m e ≡ refused c seen → c ≡ e
-rematching-place n col m e c seen h = go (search n col (freed n m e none) n [] e).ending refl
+rematching_place n col m e c seen h = go (search n col (freed n m e none) n [] e).ending refl
   where
     go : (o : Ending) → (search n col (freed n m e none) n [] e).ending ≡ o → c ≡ e
     go (found p r) f = absurd (not_both _ c seen (sym (rematching_found n col m e p r f) ∙ h))
@@ -158,7 +158,7 @@ rerouted_filled {n} {col} {e} {p} m long R = record {
     low r i = (path_rows R.path r i).0
 
     whole : filled p m ≡ augment m e R.before R.last
-    whole = sym (front-filled n p m (augment m e R.before R.last) (omega (arith, length-augment R.before m e R.last))
+    whole = sym (front_filled n p m (augment m e R.before R.last) (omega (arith, length-augment R.before m e R.last))
         (take-augment n R.before m e R.last low (path_end R.path) ∙ sym R.moved)
         (drop-augment n R.before m e R.last low (path_end R.path)))
 
@@ -172,6 +172,6 @@ rematching_reroutes_slice {n} m new p small long M l I h =
 -- ---- in storage
 
 -- every entry of the edited pattern is inside
-pub edited-inside : {size : ℕ} {starts rows : List ℕ} (e : Col) (new : List Row) → Shaped size starts rows → RowsBelow rows size
+pub edited_inside : {size : ℕ} {starts rows : List ℕ} (e : Col) (new : List Row) → Shaped size starts rows → RowsBelow rows size
     → RowsBelow new size → e < size → Inside size (column_or starts rows e new)
-edited-inside e new S low below l = inside-or e new S low below (inl l)
+edited_inside e new S low below l = inside_or e new S low below (inl l)

@@ -40,7 +40,7 @@ scan_more {rows} {lo} {hi} {k} {r} S l e ne = record {
 }
 
 -- no place is left
-pub scan-none : {rows : List Row} {lo hi k : ℕ} {r : Row} → Scanning rows lo hi r k → hi ≤ k → false ≡ elem r (slice lo hi rows)
-scan-none {rows} {lo} {hi} {k} {r} S l =
+pub scan_none : {rows : List Row} {lo hi k : ℕ} {r : Row} → Scanning rows lo hi r k → hi ≤ k → false ≡ elem r (slice lo hi rows)
+scan_none {rows} {lo} {hi} {k} {r} S l =
     let e : k ≡ hi = omega (arith, S.to) in
     sym (S.same ∙ rw (e, slice_empty hi rows))

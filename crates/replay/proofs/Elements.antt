@@ -9,10 +9,10 @@ use lib.ListN.{length, get_or, set}
 use lib.Seq.{get_or-set_same, get_or-set_other}
 
 -- within a list, what stands for its missing elements plays no part
-pub get_or-within : (xs : List ℕ) (i d e : ℕ) → i < length xs → get_or xs i d ≡ get_or xs i e
-get_or-within [] i d e l = absurd (not-suc-le-zero l)
-get_or-within (x ∷ xs) zero d e l = refl
-get_or-within (x ∷ xs) (suc i) d e l = get_or-within xs i d e (le_of_suc-le-suc l)
+pub get_or_within : (xs : List ℕ) (i d e : ℕ) → i < length xs → get_or xs i d ≡ get_or xs i e
+get_or_within [] i d e l = absurd (not-suc-le-zero l)
+get_or_within (x ∷ xs) zero d e l = refl
+get_or_within (x ∷ xs) (suc i) d e l = get_or_within xs i d e (le_of_suc-le-suc l)
 
 -- a list that holds below place i what another does holds it below the next place too, once that element is stored
 pub holds_more : (xs ys : List ℕ) (i d e : ℕ) → i < length xs → ((k : ℕ) → k < i → get_or xs k d ≡ get_or ys k e)

@@ -24,21 +24,21 @@ store_none numbers text =
     rw e
 
 module _ (numbers : List ℕ) (count : ℕ) (text : List ℕ) (at : ℕ) where
-  pub store-full : length numbers ≤ count → onward numbers count text at ≡ stored (take count numbers) false
+  pub store_full : length numbers ≤ count → onward numbers count text at ≡ stored (take count numbers) false
   unfolding stored_from
-  store-full l =
+  store_full l =
       let e : length numbers - count ≡ 0 = omega arith in
       rw e
 
-  pub store-large : count < length numbers → number_at text at ≡ TooLarge → onward numbers count text at ≡ stored (take count numbers) false
+  pub store_large : count < length numbers → number_at text at ≡ TooLarge → onward numbers count text at ≡ stored (take count numbers) false
   unfolding stored_from
-  store-large l n = rw (room numbers count l, n)
+  store_large l n = rw (room numbers count l, n)
 
-  pub store-end : count < length numbers → number_at text at ≡ End → onward numbers count text at ≡ stored (take count numbers) true
+  pub store_end : count < length numbers → number_at text at ≡ End → onward numbers count text at ≡ stored (take count numbers) true
   unfolding stored_from
-  store-end l n = rw (room numbers count l, n)
+  store_end l n = rw (room numbers count l, n)
 
-  pub store-number : {v next : ℕ} → count < length numbers → number_at text at ≡ Number v next
+  pub store_number : {v next : ℕ} → count < length numbers → number_at text at ≡ Number v next
       → onward (set numbers count v) (count + 1) text next ≡ onward numbers count text at
   unfolding stored_from
-  store-number {v} l n = rw (room numbers count l, n, length-set, add-one, take-suc-set numbers count v l)
+  store_number {v} l n = rw (room numbers count l, n, length-set, add-one, take-suc-set numbers count v l)

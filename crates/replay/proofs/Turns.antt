@@ -14,31 +14,31 @@ module _ (text : List ℕ) (i : ℕ) where
   abbrev here : ℕ
   here = digit_of (get_or text i 0)
 
-  pub skip-end : length text ≤ i → skipped i (drop i text) ≡ i
+  pub skip_end : length text ≤ i → skipped i (drop i text) ≡ i
   unfolding skipped
-  skip-end l = rw (drop_of_length-le text l)
+  skip_end l = rw (drop_of_length-le text l)
 
-  pub skip-digit : i < length text → here < 10 → skipped i (drop i text) ≡ i
+  pub skip_digit : i < length text → here < 10 → skipped i (drop i text) ≡ i
   unfolding skipped
-  skip-digit l d = rw (drop-cons text i 0 l, lt-ltb here 10 d)
+  skip_digit l d = rw (drop-cons text i 0 l, lt-ltb here 10 d)
 
-  pub skip-other : i < length text → 10 ≤ here → skipped (i + 1) (drop (i + 1) text) ≡ skipped i (drop i text)
+  pub skip_other : i < length text → 10 ≤ here → skipped (i + 1) (drop (i + 1) text) ≡ skipped i (drop i text)
   unfolding skipped
-  skip-other l d = rw (add-one, drop-cons text i 0 l, le-ltb here 10 d)
+  skip_other l d = rw (add-one, drop-cons text i 0 l, le-ltb here 10 d)
 
-  pub spell-end : (n : ℕ) → length text ≤ i → spelled n i (drop i text) ≡ Number n i
+  pub spell_end : (n : ℕ) → length text ≤ i → spelled n i (drop i text) ≡ Number n i
   unfolding spelled
-  spell-end n l = rw (drop_of_length-le text l)
+  spell_end n l = rw (drop_of_length-le text l)
 
-  pub spell-other : (n : ℕ) → i < length text → 9 < here → spelled n i (drop i text) ≡ Number n i
+  pub spell_other : (n : ℕ) → i < length text → 9 < here → spelled n i (drop i text) ≡ Number n i
   unfolding spelled
-  spell-other n l d = rw (drop-cons text i 0 l, lt-ltb 9 here d)
+  spell_other n l d = rw (drop-cons text i 0 l, lt-ltb 9 here d)
 
-  pub spell-large : (n : ℕ) → i < length text → here ≤ 9 → 4294967295 < n * 10 + here → spelled n i (drop i text) ≡ TooLarge
+  pub spell_large : (n : ℕ) → i < length text → here ≤ 9 → 4294967295 < n * 10 + here → spelled n i (drop i text) ≡ TooLarge
   unfolding spelled
-  spell-large n l d m = rw (drop-cons text i 0 l, le-ltb 9 here d, lt-ltb 4294967295 (n * 10 + here) m)
+  spell_large n l d m = rw (drop-cons text i 0 l, le-ltb 9 here d, lt-ltb 4294967295 (n * 10 + here) m)
 
-  pub spell-digit : (n : ℕ) → i < length text → here ≤ 9 → n * 10 + here ≤ 4294967295
+  pub spell_digit : (n : ℕ) → i < length text → here ≤ 9 → n * 10 + here ≤ 4294967295
       → spelled (n * 10 + here) (i + 1) (drop (i + 1) text) ≡ spelled n i (drop i text)
   unfolding spelled
-  spell-digit n l d m = rw (add-one, drop-cons text i 0 l, le-ltb 9 here d, le-ltb 4294967295 (n * 10 + here) m)
+  spell_digit n l d m = rw (add-one, drop-cons text i 0 l, le-ltb 9 here d, le-ltb 4294967295 (n * 10 + here) m)

@@ -37,8 +37,8 @@ pub drop-zeroed : (k : ℕ) (xs : List ℕ) → drop k (zeroed k xs) ≡ drop k 
 drop-zeroed k xs = drop_at (replicate k 0) (drop k xs) k (length-replicate {A = ℕ} k 0)
 
 -- zeroed again, after only the front was changed
-pub zeroed-again : (k : ℕ) (xs u v : List ℕ) → u ≡ zeroed k xs → drop k v ≡ drop k u → zeroed k v ≡ zeroed k xs
-zeroed-again k xs u v e f = ap (λ (t : List ℕ). replicate k 0 ++ t) (f ∙ ap (drop k) e ∙ drop-zeroed k xs)
+pub zeroed_again : (k : ℕ) (xs u v : List ℕ) → u ≡ zeroed k xs → drop k v ≡ drop k u → zeroed k v ≡ zeroed k xs
+zeroed_again k xs u v e f = ap (λ (t : List ℕ). replicate k 0 ++ t) (f ∙ ap (drop k) e ∙ drop-zeroed k xs)
 
 -- ---- filled
 
@@ -58,23 +58,23 @@ drop-filled ys xs = drop_at ys (drop (length ys) xs) (length ys) refl
 
 -- ---- filled with a table, from the front
 
-table-suc : (f : ℕ → ℕ) (n : ℕ) (xs : List ℕ) → n < length xs → set (table f n ++ drop n xs) n (f n) ≡ table f (suc n) ++ drop (suc n) xs
+table_suc : (f : ℕ → ℕ) (n : ℕ) (xs : List ℕ) → n < length xs → set (table f n ++ drop n xs) n (f n) ≡ table f (suc n) ++ drop (suc n) xs
 unfolding table
-table-suc f n [] l = absurd (omega arith)
-table-suc f zero (x ∷ xs) l = refl
-table-suc f (suc n) (x ∷ xs) l = ap (λ (t : List ℕ). f 0 ∷ t) (table-suc (λ k. f (suc k)) n xs (omega arith))
+table_suc f n [] l = absurd (omega arith)
+table_suc f zero (x ∷ xs) l = refl
+table_suc f (suc n) (x ∷ xs) l = ap (λ (t : List ℕ). f 0 ∷ t) (table_suc (λ k. f (suc k)) n xs (omega arith))
 
 -- one number more
 pub table_more : (f : ℕ → ℕ) (n : ℕ) (xs : List ℕ) → n < length xs → set (table f n ++ drop n xs) n (f n) ≡ table f (n + 1) ++ drop (n
     + 1) xs
-table_more f n xs l = let e : n + 1 ≡ suc n = omega arith in rw e (table-suc f n xs l)
+table_more f n xs l = let e : n + 1 ≡ suc n = omega arith in rw e (table_suc f n xs l)
 
 -- and all of them
 pub table_filled : (f : ℕ → ℕ) (n : ℕ) (xs : List ℕ) → table f n ++ drop n xs ≡ filled (table f n) xs
 table_filled f n xs = ap (λ (k : ℕ). table f n ++ drop k xs) (sym (length-table f n))
 
 -- a buffer whose front is a list of n, and whose rest is another's, is the other filled with that list
-pub front-filled : (n : ℕ) (ys xs zs : List ℕ) → n ≤ length zs → take n zs ≡ ys → drop n zs ≡ drop n xs → zs ≡ filled ys xs
-front-filled n ys xs zs l e f =
+pub front_filled : (n : ℕ) (ys xs zs : List ℕ) → n ≤ length zs → take n zs ≡ ys → drop n zs ≡ drop n xs → zs ≡ filled ys xs
+front_filled n ys xs zs l e f =
     let k : length ys ≡ n = ap length (sym e) ∙ length-take-le n zs l in
     sym (take-append-drop n zs) ∙ rw (e, f, k)

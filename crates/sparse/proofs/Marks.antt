@@ -19,9 +19,9 @@ mark_more rows v lo k m l =
     rw (e, f)
 
 -- before the first turn nothing is marked
-pub mark-none : (rows : List ℕ) (v lo : ℕ) (m : List ℕ) → marked rows v lo (lo - lo) m ≡ m
+pub mark_none : (rows : List ℕ) (v lo : ℕ) (m : List ℕ) → marked rows v lo (lo - lo) m ≡ m
 unfolding marked
-mark-none rows v lo m = let e : lo - lo ≡ 0 = omega arith in rw e
+mark_none rows v lo m = let e : lo - lo ≡ 0 = omega arith in rw e
 
 pub length_marked : (rows : List ℕ) (v lo k : ℕ) (m : List ℕ) → length (marked rows v lo k m) ≡ length m
 unfolding marked
@@ -80,9 +80,9 @@ marked_in rows v lo m (suc k) r l s = go (λ t. marked_in rows v lo m k r l t) (
         before = omega (arith, not_last, s.2)
 
 -- marks that are taken away again leave what was there
-pub unmark-mark : (rows : List ℕ) (lo k : ℕ) (m : List ℕ) → ((j : ℕ) → lo ≤ j → j < lo + k → get_or m (get_or rows j 0) 0 ≡ 0)
+pub unmark_mark : (rows : List ℕ) (lo k : ℕ) (m : List ℕ) → ((j : ℕ) → lo ≤ j → j < lo + k → get_or m (get_or rows j 0) 0 ≡ 0)
     → marked rows 0 lo k (marked rows 1 lo k m) ≡ m
-unmark-mark rows lo k m z = ext_get_or 0 both m n (λ r l. go r (rw n at l) (listed rows lo k r))
+unmark_mark rows lo k m z = ext_get_or 0 both m n (λ r l. go r (rw n at l) (listed rows lo k r))
   where
     both : List ℕ
     both = marked rows 0 lo k (marked rows 1 lo k m)

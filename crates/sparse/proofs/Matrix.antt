@@ -80,9 +80,9 @@ pub column_end : {size : ℕ} {starts rows : List ℕ} → Shaped size starts ro
 column_end {size = size} s c l = omega (arith, s.to_end, mono s (c + 1) size (omega arith) (omega arith))
 
 -- a column has as many rows as its starts are apart
-pub column-length : {size : ℕ} {starts rows : List ℕ} → Shaped size starts rows → (c : Col) → c < size
+pub column_length : {size : ℕ} {starts rows : List ℕ} → Shaped size starts rows → (c : Col) → c < size
     → length (column starts rows c) ≡ width starts c
-column-length {starts = starts} {rows = rows} s c l = length-slice (get_or starts c 0) (get_or starts (c + 1) 0) rows (column_end s c l)
+column_length {starts = starts} {rows = rows} s c l = length-slice (get_or starts c 0) (get_or starts (c + 1) 0) rows (column_end s c l)
 
 -- place i of a column is place i from its start on
 pub column_at : (starts rows : List ℕ) (c : Col) (i : ℕ) → i < width starts c
@@ -119,7 +119,7 @@ inside {size = size} {starts = starts} {rows = rows} s b = record { row_below = 
     row c r m =
         let l : c < size = col c r m in
         let t = mem_get_or (column starts rows c) r m in
-        let i : t.0 < width starts c = omega (arith, t.1, column-length s c l) in
+        let i : t.0 < width starts c = omega (arith, t.1, column_length s c l) in
         let e : get_or rows (get_or starts c 0 + t.0) 0 ≡ r = sym (column_at starts rows c t.0 i) ∙ t.2 in
         subst (λ x. x < size) e (b (get_or starts c 0 + t.0) (omega (arith, column_end s c l)))
 
@@ -151,7 +151,7 @@ column_once {size = size} {starts = starts} {rows = rows} s e c = go (dec_lt c s
     clash : c < size → (i j : ℕ) → i < j → j < length (column starts rows c)
         → get_or (column starts rows c) i 0 ≡ get_or (column starts rows c) j 0 → ⊥
     clash l i j m k f =
-        let w : j < width starts c = omega (arith, column-length s c l) in
+        let w : j < width starts c = omega (arith, column_length s c l) in
         let same : get_or rows (lo + i) 0 ≡ get_or rows (lo + j) 0 =
         sym (column_at starts rows c i (omega arith)) ∙ f ∙ column_at starts rows c j w in
         apart (repeats_at size starts rows (lo + j))
@@ -167,4 +167,4 @@ column_once {size = size} {starts = starts} {rows = rows} s e c = go (dec_lt c s
 pub few_rows : {size : ℕ} {starts rows : List ℕ} → Shaped size starts rows → RowsBelow rows size → repeated_row size starts rows ≡ Passed
     → (c : Col) → c < size → width starts c ≤ size
 few_rows {size = size} {starts = starts} {rows = rows} s b e c l =
-    omega (arith, column-length s c l, once_left size (column starts rows c) (column_once s e c) ((inside s b).row_below c))
+    omega (arith, column_length s c l, once_left size (column starts rows c) (column_once s e c) ((inside s b).row_below c))

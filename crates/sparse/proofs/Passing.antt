@@ -9,7 +9,7 @@ use Rattle.graph.specs.Lists.{Once}
 use Rattle.graph.specs.Matchings.{Col}
 use Rattle.graph.proofs.Bools.{is_false}
 use Rattle.graph.proofs.Concatenation.{once_places}
-use Rattle.graph.proofs.Counting.{some-none}
+use Rattle.graph.proofs.Counting.{some_none}
 use Rattle.sparse.specs.Limits.{max_size, max_entries}
 use Rattle.sparse.specs.Matrix.{Shaped, RowsBelow, column, width}
 use Rattle.sparse.specs.Refusals.{refused_if, too_large, misshapen, falls_at, Buffer, one_short, no_room, row_outside, outside_at}
@@ -18,7 +18,7 @@ use Rattle.sparse.specs.declared.Checked.TheVariants.{Passed}
 use Rattle.sparse.proofs.Refusals.{refused_none}
 use Rattle.sparse.proofs.Repeats.{Repeat, repeat_is}
 use Rattle.sparse.proofs.Room.{short_more}
-use Rattle.sparse.proofs.Matrix.{column_at, column-length}
+use Rattle.sparse.proofs.Matrix.{column_at, column_length}
 
 pub size_passes : (size : ℕ) (rows : List ℕ) → size ≤ max_size → length rows ≤ max_entries → too_large size rows ≡ Passed
 unfolding too_large refused_if
@@ -30,7 +30,7 @@ shape_passes {size} {starts} {rows} s =
     rw (
       eq-eqb (length starts) (size + 1) s.starts_length,
       eq-eqb (get_or starts 0 0) 0 s.from_zero,
-      some-none (falls_at starts) size (λ c l. le-ltb (get_or starts (c + 1) 0) (get_or starts c 0) (s.rising c l)),
+      some_none (falls_at starts) size (λ c l. le-ltb (get_or starts (c + 1) 0) (get_or starts c 0) (s.rising c l)),
       eq-eqb (get_or starts size 0) (length rows) s.to_end,
     )
 
@@ -64,7 +64,7 @@ repeats_pass {size} {starts} {rows} s once =
     clash : (k : ℕ) → Repeat size starts rows k → ⊥
     clash k r =
         let c = r.col in
-        let long = column-length s c r.below in
+        let long = column_length s c r.below in
         let e = once_places (column starts rows c) (once c r.below) (r.place - get_or starts c 0) (k - get_or starts c 0)
         (omega (arith, long, r.from, r.earlier, r.to)) (omega (arith, long, r.from, r.earlier, r.to))
         (row c r.place r.from (omega (arith, r.earlier, r.to)) ∙ r.same

@@ -9,7 +9,7 @@ use borrow.Author.Tests.{lt-ltb, le-ltb}
 use lib.Dec.{ltb}
 use Rattle.graph.specs.Counting.{first, some}
 use Rattle.graph.proofs.Bools.{is_false}
-use Rattle.graph.proofs.Counting.{first_at, first-none, first_le, some_first, some_is, some_false}
+use Rattle.graph.proofs.Counting.{first_at, first_none, first_le, some_first, some_is, some_false}
 use Rattle.sparse.specs.Refusals.{refusal, refused_if, refused_at, first_refusal}
 use Rattle.sparse.specs.declared.Checked.{Checked}
 use Rattle.sparse.specs.declared.Checked.TheVariants.{Passed, Refused}
@@ -18,9 +18,9 @@ use Rattle.sparse.specs.declared.Refusal.{Refusal}
 -- ---- the first refusal of a list
 
 -- a refusal at the front is the first
-pub first-refused : (x : Checked) (r : Refusal) (xs : List Checked) → x ≡ Refused r → first_refusal (x ∷ xs) ≡ Refused r
+pub first_refused : (x : Checked) (r : Refusal) (xs : List Checked) → x ≡ Refused r → first_refusal (x ∷ xs) ≡ Refused r
 unfolding first_refusal
-first-refused x r xs e = rw e
+first_refused x r xs e = rw e
 
 -- a check at the front that passes leaves it to the rest
 pub first_passed : (x : Checked) (xs : List Checked) → x ≡ Passed → first_refusal (x ∷ xs) ≡ first_refusal xs
@@ -78,7 +78,7 @@ refused_at_lem number p n i l h e = rw (first_at p n i l h e, lt-ltb i n l)
 -- passed, where p takes nothing below n
 pub refused_none : (number : ℕ) (p : ℕ → Bool) (n : ℕ) → ((k : ℕ) → k < n → p k ≡ false) → refused_at number p n ≡ Passed
 unfolding refused_at
-refused_none number p n h = rw (first-none p n h, le-ltb n n (omega arith))
+refused_none number p n h = rw (first_none p n h, le-ltb n n (omega arith))
 
 -- where it passes, p takes nothing below n
 pub at_passed : (number : ℕ) (p : ℕ → Bool) (n : ℕ) → refused_at number p n ≡ Passed → (k : ℕ) → k < n → p k ≡ false
@@ -89,9 +89,9 @@ at_passed number p n e k l = is_false (p k) (λ t. never (lt-ltb (first p n) n (
     never h = let f : refusal number (first p n) ≡ Passed = rw h at e in let z : ◌≡◌ {A = ℕ} 0 1 = cc in omega arith
 
 -- where some place below n is taken, refused at the first
-pub some-refused : (number : ℕ) (p : ℕ → Bool) (n : ℕ) → some p n ≡ true → refused_at number p n ≡ refusal number (first p n)
+pub some_refused : (number : ℕ) (p : ℕ → Bool) (n : ℕ) → some p n ≡ true → refused_at number p n ≡ refusal number (first p n)
 unfolding refused_at
-some-refused number p n e = let k = some_is p n e in rw (lt-ltb (first p n) n (some_first p n k.0 k.1 k.2).0)
+some_refused number p n e = let k = some_is p n e in rw (lt-ltb (first p n) n (some_first p n k.0 k.1 k.2).0)
 
 -- where none is, passed
 pub some_passed : (number : ℕ) (p : ℕ → Bool) (n : ℕ) → some p n ≡ false → refused_at number p n ≡ Passed

@@ -21,8 +21,8 @@ use Rattle.sparse.proofs.Scans.{none_scanned}
 -- ---- counts
 
 -- nothing is counted below 0
-pub count-zero : (p : ℕ → Bool) → count p 0 ≡ 0
-count-zero p = refl
+pub count_zero : (p : ℕ → Bool) → count p 0 ≡ 0
+count_zero p = refl
 
 -- one turn of the loop
 pub count_next : (p : ℕ → Bool) (k : ℕ) → count p (k + 1) ≡ count p k + bit (p k)
@@ -118,8 +118,8 @@ between {size = size} {starts = starts} {rows = rows} s (suc c) l = go (between 
     same : bit (enters_falling starts rows c) ≡ bit (falls_into rows lo hi)
     same = rw (add-one c) refl
 
-    less-self : hi < hi → ⊥
-    less-self x = omega arith
+    less_self : hi < hi → ⊥
+    less_self x = omega arith
 
     go : Between size starts rows c → Dec (lo < hi) → Between size starts rows (suc c)
     go old (no m) =
@@ -131,10 +131,10 @@ between {size = size} {starts = starts} {rows = rows} s (suc c) l = go (between 
         }
     go old (yes m) =
         let p = row_falls_at rows in
-        let in-hi = count_mono p lo (hi - 1) (omega arith) in
+        let in_hi = count_mono p lo (hi - 1) (omega arith) in
         let into = into_counted rows lo hi in
         record {
-          few = omega (arith, same, into, in-hi, old.few);
+          few = omega (arith, same, into, in_hi, old.few);
           none = λ f k h. none_scanned s c hi l
               (record {
                 from = up;
@@ -143,11 +143,11 @@ between {size = size} {starts = starts} {rows = rows} s (suc c) l = go (between 
                   arith,
                   q,
                   rising_rows rows lo hi
-                      (λ t x y. count_level p lo (hi - 1) t (omega (arith, f, same, into, in-hi, old.few)) x (omega arith)) i j a b d,
+                      (λ t x y. count_level p lo (hi - 1) t (omega (arith, f, same, into, in_hi, old.few)) x (omega arith)) i j a b d,
                 );
-                met = λ x. absurd (less-self (rw (add-one c) at x));
+                met = λ x. absurd (less_self (rw (add-one c) at x));
               })
-              (old.none (omega (arith, f, same, into, in-hi, old.few))) k h;
+              (old.none (omega (arith, f, same, into, in_hi, old.few))) k h;
         }
 
 -- where there are as many falls between columns as falls, no row repeats one of its column

@@ -6,9 +6,9 @@ use native.Mathlib.Numerals.{add-one}
 use Rattle.graph.specs.Counting.{some}
 
 -- nothing is found below 0
-pub some-zero : (p : ℕ → Bool) → some p 0 ≡ false
+pub some_zero : (p : ℕ → Bool) → some p 0 ≡ false
 unfolding some
-some-zero p = refl
+some_zero p = refl
 
 -- one turn of the loop
 pub some_more : (p : ℕ → Bool) (k : ℕ) → some p (k + 1) ≡ p k || some p k

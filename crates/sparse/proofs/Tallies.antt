@@ -17,26 +17,26 @@ use Rattle.sparse.proofs.Scans.{none_scanned}
 -- ---- one column: m are the marks before the count, and all rows before place k were marked
 
 -- before the first turn nothing is counted
-pub tally-none : (rows : List ℕ) (lo : ℕ) → Tallied rows lo lo 0
-tally-none rows lo = record {
+pub tally_none : (rows : List ℕ) (lo : ℕ) → Tallied rows lo lo 0
+tally_none rows lo = record {
   few = omega arith;
   apart = λ e i j a b d f. omega arith;
   met = λ h. absurd (omega arith);
 }
 
 -- a row that stands before adds 1, and two rows are alike
-tally-again : {rows : List ℕ} {lo k s : ℕ} → Tallied rows lo k s → lo ≤ k → Listed rows lo (k - lo) (get_or rows k 0)
+tally_again : {rows : List ℕ} {lo k s : ℕ} → Tallied rows lo k s → lo ≤ k → Listed rows lo (k - lo) (get_or rows k 0)
     → Tallied rows lo (k + 1) (s + 1)
-tally-again {rows = rows} {k = k} old l t = record {
+tally_again {rows = rows} {k = k} old l t = record {
   few = omega (arith, old.few);
   apart = λ e. absurd (omega arith);
   met = λ h. (t.0, k, t.1, omega (arith, t.2), omega arith, t.3);
 }
 
 -- a row that does not adds nothing, and is like none before
-tally-new : {rows : List ℕ} {lo k s : ℕ} → Tallied rows lo k s → lo ≤ k → Unlisted rows lo (k - lo) (get_or rows k 0)
+tally_new : {rows : List ℕ} {lo k s : ℕ} → Tallied rows lo k s → lo ≤ k → Unlisted rows lo (k - lo) (get_or rows k 0)
     → Tallied rows lo (k + 1) (s + 0)
-tally-new {rows = rows} {lo = lo} {k = k} {s = s} old l u = record {
+tally_new {rows = rows} {lo = lo} {k = k} {s = s} old l u = record {
   few = omega (arith, old.few);
   apart = λ e i j a b d f. go (omega arith) i j a b f (ℕ_discrete j k) d;
   met = λ h. let t = old.met (omega arith) in (t.0, t.1, t.2, t.3, omega (arith, t.4), t.5);
@@ -53,8 +53,8 @@ tally_more {rows = rows} {lo = lo} {k = k} {s = s} old l m b z = go (listed rows
   where
     go : Listed rows lo (k - lo) (get_or rows k 0) ⊎ Unlisted rows lo (k - lo) (get_or rows k 0)
         → Tallied rows lo (k + 1) (s + get_or (marked rows 1 lo (k - lo) m) (get_or rows k 0) 0)
-    go (inl t) = rw (marked_in rows 1 lo m (k - lo) (get_or rows k 0) b t) (tally-again old l t)
-    go (inr u) = rw (marked_out rows 1 lo m (k - lo) (get_or rows k 0) u, z) (tally-new old l u)
+    go (inl t) = rw (marked_in rows 1 lo m (k - lo) (get_or rows k 0) b t) (tally_again old l t)
+    go (inr u) = rw (marked_out rows 1 lo m (k - lo) (get_or rows k 0) u, z) (tally_new old l u)
 
 -- ---- column after column
 

@@ -25,9 +25,9 @@ first_refusal (Passed ∷ rest) = first_refusal rest
 first_refusal (Refused r ∷ rest) = Refused r
 
 -- what follows a check: the first where it refused, the second where it passed
-abbrev pub onCheck {ℓ} : {A : Type ℓ} → Checked → (Refusal → A) → A → A
-onCheck Passed refused passed = passed
-onCheck (Refused r) refused passed = refused r
+abbrev pub on_check {ℓ} : {A : Type ℓ} → Checked → (Refusal → A) → A → A
+on_check Passed refused passed = passed
+on_check (Refused r) refused passed = refused r
 
 -- ---- the table's rows
 

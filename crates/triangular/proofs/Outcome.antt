@@ -10,8 +10,8 @@ use Rattle.graph.specs.Lists.{Mem}
 use Rattle.graph.specs.Matchings.{Row, Col, Pattern, Inside, Perfect, Points, partner}
 use Rattle.graph.specs.Blocks.{targets, blocks}
 use Rattle.graph.proofs.Matchings.{perfect_agree}
-use Rattle.graph.proofs.Blocks.{blocks-filled, blocks-length, blocks_permute}
-use Rattle.graph.proofs.Targets.{targets-within, matching_form, form_carried}
+use Rattle.graph.proofs.Blocks.{blocks_filled, blocks_length, blocks_permute}
+use Rattle.graph.proofs.Targets.{targets_within, matching_form, form_carried}
 use Rattle.sparse.specs.Buffers.{zeroed, filled}
 use Rattle.sparse.specs.Limits.{none, max_size}
 use Rattle.sparse.specs.Matrix.{column}
@@ -59,18 +59,18 @@ given_once G = repeats_pass G.valid.shaped G.valid.once
 -- ---- the exits of the outcome
 
 -- refused by 1, 2, 5 or 3: nothing has changed
-pub early-outcome : (size : ℕ) (starts : List ℕ) (rows : List Row) (l : Lent) (r : Refusal)
+pub early_outcome : (size : ℕ) (starts : List ℕ) (rows : List Row) (l : Lent) (r : Refusal)
     → first_refusal (early size starts rows (buffers size (length rows) l)) ≡ checked.Refused r
     → ended (Refused r) l ≡ outcome size starts rows l
 unfolding outcome
-early-outcome size starts rows l r e = rw e
+early_outcome size starts rows l r e = rw e
 
 -- else what is formed, with workspace and stack zero
-pub formed-outcome : (size : ℕ) (starts : List ℕ) (rows : List Row) (l : Lent)
+pub formed_outcome : (size : ℕ) (starts : List ℕ) (rows : List Row) (l : Lent)
     → first_refusal (early size starts rows (buffers size (length rows) l)) ≡ checked.Passed
     → formed size starts rows (cleared size (length rows) l.inner) l.outer ≡ outcome size starts rows l
 unfolding outcome
-formed-outcome size starts rows l p = rw p
+formed_outcome size starts rows l p = rw p
 
 -- refused by 4: no output has changed
 pub repeat_formed : (size : ℕ) (starts : List ℕ) (rows : List Row) (w : Work) (o : Outputs) (r : Refusal)
@@ -200,15 +200,15 @@ points_agree n col f g same c d =
     (λ t. (t.0, t.1, t.2, same t.0 t.1 ∙ t.3), λ t. (t.0, t.1, t.2, sym (same t.0 t.1) ∙ t.3))
 
 -- the blocks of a perfect matching, put into two slices, are a stored form of the graph of a slice that holds the matching
-pub blocks-stored : {n : ℕ} {col : Pattern} → Inside n col → (p q : List Col) (x y : List ℕ) → Perfect n col (partner p)
+pub blocks_stored : {n : ℕ} {col : Pattern} → Inside n col → (p q : List Col) (x y : List ℕ) → Perfect n col (partner p)
     → ((r : Row) → r < n → partner q r ≡ partner p r)
     → StoredForm n (Points n col (partner q)) (filled (columns_of (blocks n (targets col p))) x)
     (filled (block_starts n (blocks n (targets col p))) y) (length (blocks n (targets col p)))
-blocks-stored {n} {col} I p q x y M same =
-    let within = targets-within I p M in
+blocks_stored {n} {col} I p q x y M same =
+    let within = targets_within I p M in
     stored_form n (Points n col (partner q)) (blocks n (targets col p)) x y
     (form_carried (points_agree n col (partner p) (partner q) same) (matching_form I p M))
-    (blocks_permute n (targets col p) within) (blocks-length n (targets col p) within) (blocks-filled n (targets col p) within)
+    (blocks_permute n (targets col p) within) (blocks_length n (targets col p) within) (blocks_filled n (targets col p) within)
 
 -- what a verdict hands out means that it decides
 handed_means : (size : ℕ) (starts : List ℕ) (rows : List Row) (l : Lent) (w : Work) (v : Verdict) → Given size starts rows l
@@ -218,7 +218,7 @@ handed_means size starts rows l w (accepted p) G D =
     record {
       accepted_exactly = (λ a. (G, D.accepted_exactly.0 (p, refl)), λ t. (length (blocks size (targets (column starts rows) p)), refl));
       perfect = λ k a. perfect_agree (partner (filled p l.outer.row2col)) (D.perfect p refl) agree;
-      form = λ k a. rw (← count k a) (blocks-stored (inside G.valid.shaped G.valid.below) p (filled p l.outer.row2col) _ _
+      form = λ k a. rw (← count k a) (blocks_stored (inside G.valid.shaped G.valid.below) p (filled p l.outer.row2col) _ _
           (D.perfect p refl) agree);
       refused_exactly = (λ e. absurd (omega arith), λ t. absurd (t.1 (D.accepted_exactly.0 (p, refl))));
       deficient = λ e. absurd (omega arith);
@@ -238,14 +238,14 @@ handed_means size starts rows l w (refused c seen) G D = record {
   deficient = λ e. hall_marks l.outer.hall (D.deficient c seen refl);
 }
 
-small-none : {n : ℕ} → n ≤ max_size → n ≤ none
-small-none l = omega arith
+small_none : {n : ℕ} → n ≤ max_size → n ≤ none
+small_none l = omega arith
 
 -- the rule decides what passes
 pub decides : {size : ℕ} {starts : List ℕ} {rows : List Row} {l : Lent} → Given size starts rows l
     → Decides size (column starts rows) (matching size (column starts rows))
 decides {size} {starts} {rows} G =
-    matching_decides size (column starts rows) (inside G.valid.shaped G.valid.below) (small-none G.valid.shaped.small)
+    matching_decides size (column starts rows) (inside G.valid.shaped G.valid.below) (small_none G.valid.shaped.small)
 
 verdict_means : (size : ℕ) (starts : List ℕ) (rows : List Row) (l after : Lent) (w : Work) (answer : BlockAnswer)
     → first_refusal (early size starts rows (buffers size (length rows) l)) ≡ checked.Passed
@@ -270,17 +270,17 @@ outcome_means size starts rows l after answer e = first (first_refusal (early si
     second : first_refusal (early size starts rows (buffers size (length rows) l)) ≡ checked.Passed
         → (x : Checked) → repeated_row size starts rows ≡ x → Means size starts rows l after answer
     second p (checked.Refused r) q =
-        let f = e ∙ sym (formed-outcome size starts rows l p) ∙ sym (repeat_formed size starts rows w l.outer r q) in
+        let f = e ∙ sym (formed_outcome size starts rows l p) ∙ sym (repeat_formed size starts rows w l.outer r q) in
         let b : answer ≡ Refused r = ap (λ (o : Outcome). o.answer) f in
         rw b (repeat_means size starts rows l after r q)
     second p checked.Passed q =
         verdict_means size starts rows l after w answer p q
-        (e ∙ sym (formed-outcome size starts rows l p) ∙ sym (verdict_formed size starts rows w l.outer q))
+        (e ∙ sym (formed_outcome size starts rows l p) ∙ sym (verdict_formed size starts rows w l.outer q))
 
     first : (x : Checked) → first_refusal (early size starts rows (buffers size (length rows) l)) ≡ x
         → Means size starts rows l after answer
     first (checked.Refused r) q =
-        let b : answer ≡ Refused r = ap (λ (o : Outcome). o.answer) (e ∙ sym (early-outcome size starts rows l r q)) in
+        let b : answer ≡ Refused r = ap (λ (o : Outcome). o.answer) (e ∙ sym (early_outcome size starts rows l r q)) in
         rw b (early_means size starts rows l after r q)
     first checked.Passed q = second q (repeated_row size starts rows) refl
 

@@ -11,10 +11,10 @@ use Rattle.sparse.proofs.Room.{short_more, short_last}
 use Rattle.triangular.specs.Outcome.{Work, work, Outputs, form_need, starts_need, entries_need, work_buffers, output_buffers, cleared}
 
 -- the test of two lists of buffers
-pub short-append : (a b : List Buffer) → one_short (a ++ b) ≡ one_short a || one_short b
+pub short_append : (a b : List Buffer) → one_short (a ++ b) ≡ one_short a || one_short b
 unfolding one_short
-short-append [] b = refl
-short-append (x ∷ a) b = ap (λ (t : Bool). ltb x.len x.need || t) (short-append a b) ∙ go (ltb x.len x.need)
+short_append [] b = refl
+short_append (x ∷ a) b = ap (λ (t : Bool). ltb x.len x.need || t) (short_append a b) ∙ go (ltb x.len x.need)
   where
     go : (t : Bool) → t || (one_short a || one_short b) ≡ (t || one_short a) || one_short b
     go true = refl

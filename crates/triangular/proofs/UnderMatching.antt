@@ -8,7 +8,7 @@ use lib.ListN.{length, get_or, take, drop}
 use Rattle.graph.specs.Matchings.{Pattern}
 use Rattle.graph.specs.Permutations.{Permutes, Inverse, inverse}
 use Rattle.graph.specs.Blocks.{targets, blocks, cut}
-use Rattle.graph.proofs.Blocks.{blocks-length}
+use Rattle.graph.proofs.Blocks.{blocks_length}
 use Rattle.graph.proofs.Cuts.{Within}
 use Rattle.graph.proofs.Permutations.{length-inverse, inverse-inverse}
 use Rattle.sparse.specs.Buffers.{zeroed, filled}
@@ -21,7 +21,7 @@ use Rattle.blocks.specs.Cut.{first_pass, second_pass, PassReady, Finished, Holds
 use Rattle.triangular.specs.Outcome.{Work, work, starts_need, entries_need, cleared}
 use Rattle.triangular.specs.Parts.{SameWork}
 use Rattle.blocks.proofs.Backward.{back_shaped}
-use Rattle.blocks.proofs.Joined.{targets-within, finished_unwalked, back_pattern, cut_is_blocks}
+use Rattle.blocks.proofs.Joined.{targets_within, finished_unwalked, back_pattern, cut_is_blocks}
 
 -- ---- before the first pass
 
@@ -96,7 +96,7 @@ second_ready {n} {col} {starts = starts} {rows = rows} small R I room T F ls lc 
 -- ---- at the end
 
 -- the blocks cut are the rule's, and fill their slice to the need, whatever the first pass left there
-pub matched-holds : {n : ℕ} {col : Pattern} {m inv : List ℕ} {starts₀ rows₀ starts rows stamps order es₀ es ends₀ es' ends' :
+pub matched_holds : {n : ℕ} {col : Pattern} {m inv : List ℕ} {starts₀ rows₀ starts rows stamps order es₀ es ends₀ es' ends' :
     List ℕ} {r : ℕ}
     → n ≤ max_size → Reversible n col m → Inverse n m inv → ReverseRoom n col starts rows → Reversed n col m inv starts₀ rows₀
     starts rows
@@ -104,7 +104,7 @@ pub matched-holds : {n : ℕ} {col : Pattern} {m inv : List ℕ} {starts₀ rows
     → HoldsBlocks n (cut (targets (column (take (n + 1) starts) (take (get_or starts n 0) rows)) m) n [] (last_first order n)) es
     ends₀ es' ends' r
     → HoldsBlocks n (blocks n (targets col m)) es₀ ends₀ es' ends' r
-matched-holds {n} {col} {m} {starts = starts} {rows = rows} {order = order} {es₀ = es₀} {es = es} {ends₀ = ends₀} {es' = es'}
+matched_holds {n} {col} {m} {starts = starts} {rows = rows} {order = order} {es₀ = es₀} {es = es} {ends₀ = ends₀} {es' = es'}
     {ends' = ends'}
     {r = r} small R I room T F same H =
     let G : HoldsBlocks n (cut (targets (column (take (n + 1) starts) (take (entries n col) rows)) m) n [] (last_first order n))
@@ -112,8 +112,8 @@ matched-holds {n} {col} {m} {starts = starts} {rows = rows} {order = order} {es�
     es' ends' r = rw T.to_end at H in
     let B : HoldsBlocks n (blocks n (targets col m)) es ends₀ es' ends' r =
     subst (λ bs. HoldsBlocks n bs es ends₀ es' ends' r) (cut_is_blocks small R I room T F) G in
-    let within : Within n (targets col m) = targets-within m R.inside R.permutes.below in
-    let long : length (flatten (blocks n (targets col m))) ≡ n = blocks-length n (targets col m) within in
+    let within : Within n (targets col m) = targets_within m R.inside R.permutes.below in
+    let long : length (flatten (blocks n (targets col m))) ≡ n = blocks_length n (targets col m) within in
     record {
       counted = B.counted;
       columns = B.columns ∙ ap (λ (t : List ℕ). flatten (blocks n (targets col m)) ++ t) (rw long same);

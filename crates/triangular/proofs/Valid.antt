@@ -15,12 +15,12 @@ use Rattle.sparse.specs.Limits.{none, max_entries}
 use Rattle.sparse.specs.Matrix.{column, column_or, Shaped}
 use Rattle.sparse.specs.Refusals.{first_refusal, early}
 use Rattle.sparse.specs.declared.Checked.TheVariants as checked
-use Rattle.sparse.proofs.Buffers.{zeroed-again}
+use Rattle.sparse.proofs.Buffers.{zeroed_again}
 use Rattle.sparse.proofs.Matrix.{inside, column_beyond}
 use Rattle.matching.specs.Matching.{matching}
 use Rattle.matching.specs.Parts.{SameBeyond}
 use Rattle.matching.proofs.Columns.{unedited}
-use Rattle.matching.proofs.Ready.{short-or}
+use Rattle.matching.proofs.Ready.{short_or}
 use Rattle.blocks.specs.Cut.{HoldsBlocks}
 use Rattle.triangular.specs.Outcome.{Work, work, Outputs, outputs, Lent, lent, buffers, cleared}
 use Rattle.triangular.specs.Outcome.{handed_out, formed, outcome, ended, Given, Means}
@@ -29,7 +29,7 @@ use Rattle.blocks.specs.Reverse.{entries, Reversible}
 use Rattle.triangular.specs.declared.form.BlockAnswer.{BlockAnswer}
 use Rattle.triangular.specs.declared.form.BlockAnswer.TheVariants.{Accepted}
 use Rattle.blocks.proofs.Entries.{entries_plain}
-use Rattle.triangular.proofs.Outcome.{Handed, handed_agree, hand_accepted, decides, formed-outcome, outcome_means}
+use Rattle.triangular.proofs.Outcome.{Handed, handed_agree, hand_accepted, decides, formed_outcome, outcome_means}
 use Rattle.triangular.proofs.UnderMatching.{same_cleared}
 
 -- ---- what the matching hands on
@@ -42,7 +42,7 @@ handed_reversible {size} {starts} {rows} {row2col = row2col} new G H long e =
     subst (λ p. Reversible size p row2col) (sym (unedited new S e)) (record {
       inside = inside S G.valid.below;
       once = λ c. once c (dec_lt c size);
-      short = λ c. subst (λ p. length (p c) ≤ max_entries) (unedited [] S refl) (short-or none [] S (omega arith) c);
+      short = λ c. subst (λ p. length (p c) ≤ max_entries) (unedited [] S refl) (short_or none [] S (omega arith) c);
       permutes = permutes size row2col M.inside M.once;
       matching_long = long;
     })
@@ -97,9 +97,9 @@ accepted_cleared {size} {starts} {rows} new w u x S A B =
 -- ---- the entry
 
 -- stamps cleared before a check that leaves them are cleared again with the rest
-pub cleared-first : (size k : ℕ) (w : Work) (v v' : List ℕ) → v ≡ zeroed size w.visited → v' ≡ v
+pub cleared_first : (size k : ℕ) (w : Work) (v v' : List ℕ) → v ≡ zeroed size w.visited → v' ≡ v
     → cleared size k (work v' w.cheap w.finished w.col2row w.backstarts w.backrows w.scol w.sat) ≡ cleared size k w
-cleared-first size k w v v' e f = rw (zeroed-again size w.visited v v' e (rw f))
+cleared_first size k w v v' e f = rw (zeroed_again size w.visited v v' e (rw f))
 
 -- what is formed, with the workspace cleared
 pub tested_exit : (size : ℕ) (starts : List ℕ) (rows : List Row) (l : Lent) (w : Work) (o : Outputs) (answer : BlockAnswer)
@@ -108,5 +108,5 @@ pub tested_exit : (size : ℕ) (starts : List ℕ) (rows : List Row) (l : Lent) 
     → (ended answer (lent w o) ≡ outcome size starts rows l) × Means size starts rows l (lent w o) answer
 tested_exit size starts rows l w o answer p f h =
     let e : ended answer (lent w o) ≡ outcome size starts rows l =
-    rw f (h (cleared size (length rows) l.inner) ∙ formed-outcome size starts rows l p) in
+    rw f (h (cleared size (length rows) l.inner) ∙ formed_outcome size starts rows l p) in
     (e, outcome_means size starts rows l (lent w o) answer e)

@@ -4,7 +4,7 @@ use Rattle.graph.specs.Matchings.{Col, Row, Pattern, Perfect, Points, partner}
 use Rattle.graph.specs.Blocks.{targets, blocks}
 use Rattle.sparse.specs.Matrix.{column, Valid}
 use Rattle.sparse.specs.Buffers.{zeroed, filled}
-use Rattle.sparse.specs.Refusals.{first_refusal, onCheck, Buffer, buffer, Roomy, early, repeated_row}
+use Rattle.sparse.specs.Refusals.{first_refusal, on_check, Buffer, buffer, Roomy, early, repeated_row}
 use Rattle.sparse.specs.declared.Refusal.{Refusal}
 use Rattle.matching.specs.Matching.{Verdict, accepted, refused, matching, Matchable}
 use Rattle.matching.specs.Outcome.{marks_of, HallMarks}
@@ -89,9 +89,9 @@ buffers size entries l = work_buffers size entries l.inner ++ output_buffers siz
 -- workspace and stack zero over their needs
 abbrev pub cleared : ℕ → ℕ → Work → Work
 cleared size entries w =
-    let byColumn = zeroed (form_need size) in
-    work (byColumn w.visited) (byColumn w.cheap) (byColumn w.finished) (byColumn w.col2row)
-    (zeroed (starts_need size) w.backstarts) (zeroed (entries_need entries) w.backrows) (byColumn w.scol) (byColumn w.sat)
+    let by_column = zeroed (form_need size) in
+    work (by_column w.visited) (by_column w.cheap) (by_column w.finished) (by_column w.col2row)
+    (zeroed (starts_need size) w.backstarts) (zeroed (entries_need entries) w.backrows) (by_column w.scol) (by_column w.sat)
 
 -- ---- the outcome
 
@@ -140,13 +140,13 @@ handed_out size col w o (refused c visited) =
 -- where 1, 2, 5 and 3 let a matrix through: 4 changes no output; else the matching rule's verdict is handed out
 unfoldable pub formed : ℕ → List ℕ → List Row → Work → Outputs → Outcome
 formed size starts rows w o =
-    onCheck (repeated_row size starts rows) (λ (r : Refusal). ended (Refused r) (lent w o))
+    on_check (repeated_row size starts rows) (λ (r : Refusal). ended (Refused r) (lent w o))
     (handed_out size (column starts rows) w o (matching size (column starts rows)))
 
 -- for any input: 1, 2, 5 and 3 change nothing; anything else leaves workspace and stack zero
 unfoldable pub outcome : ℕ → List ℕ → List Row → Lent → Outcome
 outcome size starts rows l =
-    onCheck (first_refusal (early size starts rows (buffers size (length rows) l))) (λ (r : Refusal). ended (Refused r) l)
+    on_check (first_refusal (early size starts rows (buffers size (length rows) l))) (λ (r : Refusal). ended (Refused r) l)
     (formed size starts rows (cleared size (length rows) l.inner) l.outer)
 
 -- ---- the meaning

@@ -7,7 +7,7 @@ use Rattle.sparse.proofs.Early.{Early, early_passed}
 use Rattle.edit.specs.Outcome.{edit_entries}
 use Rattle.triangular.specs.Outcome.{work, outputs, lent, buffers, work_buffers, output_buffers}
 use Rattle.triangular.proofs.Room.{work_kept, roomy_split}
-use Rattle.edit.proofs.Outcome.{early-outcome, outcome_means, tested_exit}
+use Rattle.edit.proofs.Outcome.{early_outcome, outcome_means, tested_exit}
 use Rattle.edit.proofs.entry.edit_column.Goals as goal
 
 pub returns-in-Refused : goal.returns-in-Refused
@@ -18,7 +18,7 @@ returns-in-Refused c =
     c.args.backrows.now c.args.scol.now c.args.sat.now)
     (outputs c.args.row2col.now c.args.hall.now c.args.blockcols.now c.args.blockstarts.now))) (c.lacks_room-short.ensures c.args.backrows.now
     (edit_entries c.args.size c.args.rows.now) c.is_less_sum-few.ensures) in
-    let e = early-outcome c.args.size c.args.starts.now c.args.rows.now c.args.edited.0 c.args.replacement.now (lent (work c.args.visited.now c.args.cheap.now c.args.finished.now c.args.col2row.now c.args.backstarts.now
+    let e = early_outcome c.args.size c.args.starts.now c.args.rows.now c.args.edited.0 c.args.replacement.now (lent (work c.args.visited.now c.args.cheap.now c.args.finished.now c.args.col2row.now c.args.backstarts.now
     c.args.backrows.now c.args.scol.now c.args.sat.now)
     (outputs c.args.row2col.now c.args.hall.now c.args.blockcols.now c.args.blockstarts.now)) _ (sym found ∙ c.in-Refused.is) in record {
       outcome = e;

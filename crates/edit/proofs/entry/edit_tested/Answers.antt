@@ -11,7 +11,7 @@ use Rattle.rematching.proofs.Late.{late_passed, former_read}
 use Rattle.rematching.specs.Checks.{late, Editable}
 use Rattle.edit.specs.Outcome.{edit_entries}
 use Rattle.edit.proofs.Tested.{tested_same}
-use Rattle.edit.proofs.Outcome.{refused-replaced, verdict_replaced}
+use Rattle.edit.proofs.Outcome.{refused_replaced, verdict_replaced}
 use Rattle.edit.proofs.entry.edit_tested.Goals as goal
 
 pub clear-requires : goal.clear-requires
@@ -31,7 +31,7 @@ check_edit-checked-requires c = record {
 
 pub returns-in-Refused : goal.returns-in-Refused
 returns-in-Refused c = record {
-  blockstarts_after = λ w. refused-replaced c.args.size c.args.starts.now c.args.rows.now c.args.edited.0 c.args.replacement.now w (outputs c.args.row2col.now c.args.hall.now c.args.blockcols.now c.args.blockstarts.now) _ (sym c.check_edit-checked.ensures.value ∙ c.in-Refused.is);
+  blockstarts_after = λ w. refused_replaced c.args.size c.args.starts.now c.args.rows.now c.args.edited.0 c.args.replacement.now w (outputs c.args.row2col.now c.args.hall.now c.args.blockcols.now c.args.blockstarts.now) _ (sym c.check_edit-checked.ensures.value ∙ c.in-Refused.is);
   sat_unchanged = same_cleared c.args.size (edit_entries c.args.size c.args.rows.now) (work c.args.visited.now c.args.cheap.now c.args.finished.now c.args.col2row.now c.args.backstarts.now
       c.args.backrows.now c.args.scol.now c.args.sat.now)
       (work _ _ _ _ _ _ _ _)

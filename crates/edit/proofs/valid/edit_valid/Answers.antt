@@ -1,6 +1,6 @@
 -- `edit_valid` meets its contract: a search that failed is refused with its stamps as marks, and a path found is cut into blocks.
-use Rattle.edit.proofs.ValidEdit.{Searched, edit_unused, cleared_beyond, searched-reversible, searched-room}
-use Rattle.edit.proofs.ValidEdit.{searched-accepted, searched-refused, searched-cleared, passed-cleared}
+use Rattle.edit.proofs.ValidEdit.{Searched, edit_unused, cleared_beyond, searched_reversible, searched_room}
+use Rattle.edit.proofs.ValidEdit.{searched_accepted, searched_refused, searched_cleared, passed_cleared}
 use Rattle.edit.proofs.EditedEntries.{entries_few}
 use Rattle.triangular.specs.Outcome.{work, outputs, lent}
 use mathlib.Core.Path.{◌∙◌}
@@ -101,10 +101,10 @@ returns-then-end-size c =
       cols_length = c.rematch-end.auto.scol;
       places_length = c.rematch-end.auto.sat;
     } in record {
-      blockstarts_after = searched-refused searched c.if-end-size.true c.refuse_edit.ensures.value
+      blockstarts_after = searched_refused searched c.if-end-size.true c.refuse_edit.ensures.value
           c.refuse_edit.ensures.hall_after c.refuse_edit.ensures.blockcols_after.0
           c.refuse_edit.ensures.blockcols_after.1;
-      sat_unchanged = searched-cleared searched;
+      sat_unchanged = searched_cleared searched;
     }
 
 pub clear-requires-3 : goal.clear-requires-3
@@ -159,10 +159,10 @@ block_matched-count-requires c =
     } in record {
       shaped = searched.given.valid.shaped;
       reversible = (
-        searched-reversible searched (omega (arith, c.if-end-size.false)),
+        searched_reversible searched (omega (arith, c.if-end-size.false)),
         entries_few searched.given.valid.shaped searched.given.editable,
       );
-      roomy = searched-room searched;
+      roomy = searched_room searched;
       size_in_bounds = (
         searched.given.room.1.1.1.1.1.1.1.1.1.1.0,
         searched.given.room.1.1.1.1.1.1.1.1.1.1.1.0,
@@ -335,7 +335,7 @@ returns c =
       cols_length = c.rematch-end.auto.scol;
       places_length = c.rematch-end.auto.sat;
     } in record {
-      blockstarts_after = searched-accepted searched (omega (arith, c.if-end-size.false)) c.clear-3.ensures
+      blockstarts_after = searched_accepted searched (omega (arith, c.if-end-size.false)) c.clear-3.ensures
           c.block_matched-count.ensures.holds_blocks;
-      sat_unchanged = passed-cleared searched c.block_matched-count.ensures.same_work;
+      sat_unchanged = passed_cleared searched c.block_matched-count.ensures.same_work;
     }

@@ -6,13 +6,13 @@ use Rattle.sparse.proofs.Buffers.{zero_below}
 use Rattle.sparse.proofs.Early.{early_passed}
 use Rattle.matching.specs.declared.diagonal.MatchingAnswer.TheVariants.{Refused}
 use Rattle.matching.specs.Outcome.{lent, buffers, ended}
-use Rattle.matching.proofs.Outcome.{early-outcome, repeat_outcome, verdict_outcome, early_means, repeat_means, verdict_means}
+use Rattle.matching.proofs.Outcome.{early_outcome, repeat_outcome, verdict_outcome, early_means, repeat_means, verdict_means}
 use Rattle.matching.proofs.Outcome.{cleared_same, filled_beyond}
 use Rattle.matching.proofs.diagonal.find_diag_matching.Goals as goal
 
 pub returns-in-Refused : goal.returns-in-Refused
 returns-in-Refused c = record {
-  outcome = early-outcome c.args.size c.args.starts.now c.args.rows.now (lent c.args.visited.now c.args.cheap.now c.args.scol.now c.args.sat.now c.args.row2col.now c.args.hall.now) _ ((sym (c.check_early-first.ensures (buffers c.args.size (lent
+  outcome = early_outcome c.args.size c.args.starts.now c.args.rows.now (lent c.args.visited.now c.args.cheap.now c.args.scol.now c.args.sat.now c.args.row2col.now c.args.hall.now) _ ((sym (c.check_early-first.ensures (buffers c.args.size (lent
       c.args.visited.now c.args.cheap.now c.args.scol.now c.args.sat.now
       c.args.row2col.now c.args.hall.now)) c.lacks_room-short.ensures)) ∙
       c.in-Refused.is);

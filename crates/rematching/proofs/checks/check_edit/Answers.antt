@@ -2,7 +2,7 @@
 use mathlib.Core.Path.{refl, sym, ◌∙◌, ap}
 use native.Mathlib.Omega.{arith}
 use lib.ListN.{drop}
-use Rattle.sparse.proofs.Refusals.{first-refused, first_passed, first_last}
+use Rattle.sparse.proofs.Refusals.{first_refused, first_passed, first_last}
 use Rattle.rematching.specs.Checks.{late}
 use Rattle.rematching.proofs.Late.{column_below}
 use Rattle.rematching.proofs.Replacements.{unfit_few}
@@ -13,7 +13,7 @@ pub returns-in-Refused : goal.returns-in-Refused
 unfolding late
 returns-in-Refused c =
     let four = c.check_repeats-again.ensures in record {
-      value = sym (first-refused _ _ _ (sym four.value ∙ c.in-Refused.is));
+      value = sym (first_refused _ _ _ (sym four.value ∙ c.in-Refused.is));
       same_beyond = (ap (drop c.args.size) four.marks_unchanged, refl);
       col2row_after = λ f. absurd (not_both refl f);
     }
@@ -24,7 +24,7 @@ returns-in-Refused-outside c =
     let four = c.check_repeats-again.ensures in
     let thirteen = c.check_column-outside.ensures in record {
       value = sym (first_passed _ _ (sym four.value ∙ c.in_default.is)
-          ∙ first-refused _ _ _ (sym thirteen ∙ c.in-Refused-outside.is));
+          ∙ first_refused _ _ _ (sym thirteen ∙ c.in-Refused-outside.is));
       same_beyond = (ap (drop c.args.size) four.marks_unchanged, refl);
       col2row_after = λ f. absurd (not_both refl f);
     }
@@ -42,7 +42,7 @@ returns-in-Refused-unfit c =
     let fourteen = c.check_replacement-unfit.ensures in record {
       value = sym (first_passed _ _ (sym four.value ∙ c.in_default.is)
           ∙ first_passed _ _ (sym thirteen ∙ c.in_default-outside.is)
-          ∙ first-refused _ _ _ (sym fourteen.value ∙ c.in-Refused-unfit.is));
+          ∙ first_refused _ _ _ (sym fourteen.value ∙ c.in-Refused-unfit.is));
       same_beyond = (fourteen.same_beyond ∙ ap (drop c.args.size) four.marks_unchanged, refl);
       col2row_after = λ f. absurd (not_both refl f);
     }
@@ -57,7 +57,7 @@ returns-in-Refused-mismatched c =
       value = sym (first_passed _ _ (sym four.value ∙ c.in_default.is)
           ∙ first_passed _ _ (sym thirteen ∙ c.in_default-outside.is)
           ∙ first_passed _ _ (sym fourteen.value ∙ c.in_default-unfit.is)
-          ∙ first-refused _ _ _ (sym fifteen.value ∙ c.in-Refused-mismatched.is));
+          ∙ first_refused _ _ _ (sym fifteen.value ∙ c.in-Refused-mismatched.is));
       same_beyond = (fourteen.same_beyond ∙ ap (drop c.args.size) four.marks_unchanged, fifteen.same_beyond);
       col2row_after = λ f. absurd (not_both refl f);
     }

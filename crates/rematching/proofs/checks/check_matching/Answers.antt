@@ -1,7 +1,7 @@
 -- `check_matching` meets its contract: the search has the first row, or n, and starts with no row at any column.
 use mathlib.Core.Path.{◌∙◌}
 use native.Mathlib.Omega.{arith}
-use Rattle.sparse.proofs.Buffers.{front-filled}
+use Rattle.sparse.proofs.Buffers.{front_filled}
 use Rattle.sparse.specs.Limits.{none}
 use Rattle.matching.proofs.Outcome.{filled_beyond}
 use Rattle.rematching.specs.Checks.{mismatched_row}
@@ -34,5 +34,5 @@ returns c =
     c.fill.ensures in record {
       value = found_none 15 _ _ _ found.value (omega arith);
       same_beyond = beyond;
-      col2row_after = λ f. front-filled c.args.size _ _ _ (omega arith) (found.col2row_after (omega arith)) beyond;
+      col2row_after = λ f. front_filled c.args.size _ _ _ (omega arith) (found.col2row_after (omega arith)) beyond;
     }

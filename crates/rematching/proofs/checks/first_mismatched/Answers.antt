@@ -1,6 +1,6 @@
 use mathlib.Core.Path.{◌≡◌, sym, ◌∙◌}
 use native.Mathlib.Omega.{arith}
-use Rattle.graph.proofs.Counting.{first_at, first-none}
+use Rattle.graph.proofs.Counting.{first_at, first_none}
 use Rattle.rematching.proofs.Mismatches.{record_start, record_more, record_below, record_end, mismatch_test}
 use Rattle.rematching.proofs.checks.first_mismatched.Goals as goal
 
@@ -49,7 +49,7 @@ pub returns : goal.returns
 returns c =
     let inv = c.loop-r.invariant in
     let e : c.loop-r.r ≡ c.args.size = omega (arith, inv.to) in record {
-      value = e ∙ sym (first-none _ _ (λ j l. inv.suits j (omega arith)));
+      value = e ∙ sym (first_none _ _ (λ j l. inv.suits j (omega arith)));
       same_beyond = inv.kept.beyond;
       col2row_after = λ f. record_end (rw e at inv) c.requires.shaped.1;
     }

@@ -1,7 +1,7 @@
 use mathlib.Core.Path.{◌≡◌, sym, ◌∙◌}
 use native.Mathlib.Omega.{arith}
 use lib.ListN.{length}
-use Rattle.graph.proofs.Counting.{first_at, first-none}
+use Rattle.graph.proofs.Counting.{first_at, first_none}
 use Rattle.rematching.proofs.Replacements.{marking_start, marking_more, marking_few, marking_below, unfit_test}
 use Rattle.rematching.proofs.checks.first_unfit.Goals as goal
 
@@ -53,6 +53,6 @@ pub returns : goal.returns
 returns c =
     let inv = c.loop-k.invariant in
     let e : c.loop-k.k ≡ length c.args.replacement.now = omega (arith, inv.to) in record {
-      value = e ∙ sym (first-none _ _ (λ j l. inv.fit j (omega arith)));
+      value = e ∙ sym (first_none _ _ (λ j l. inv.fit j (omega arith)));
       same_beyond = inv.kept.beyond;
     }

@@ -1,5 +1,5 @@
 use native.Mathlib.Omega.{arith}
-use Rattle.rematching.proofs.Scans.{scan_start, scan_found, scan_more, scan-none}
+use Rattle.rematching.proofs.Scans.{scan_start, scan_found, scan_more, scan_none}
 use Rattle.rematching.proofs.checks.has_row.Goals as goal
 
 pub loop-k-init : goal.loop-k-init
@@ -17,4 +17,4 @@ loop-k-preserved c =
 
 pub returns : goal.returns
 returns c =
-    rw (← c.by_column-k.ensures, ← c.get-hi.ensures) (scan-none c.loop-k.invariant (omega arith))
+    rw (← c.by_column-k.ensures, ← c.get-hi.ensures) (scan_none c.loop-k.invariant (omega arith))

@@ -1,13 +1,13 @@
 use mathlib.Core.Path.{◌≡◌, sym, ◌∙◌}
 use native.Mathlib.Omega.{arith}
 use lib.ListN.{length}
-use Rattle.sparse.proofs.Search.{some-zero, some_more}
+use Rattle.sparse.proofs.Search.{some_zero, some_more}
 use Rattle.replay.specs.Lists.{differs_at}
 use Rattle.replay.proofs.lists.differs.Goals as goal
 
 pub loop-i-init : goal.loop-i-init
 loop-i-init c =
-    (omega arith, sym (some-zero (differs_at c.args.buffer.now c.args.list.now)))
+    (omega arith, sym (some_zero (differs_at c.args.buffer.now c.args.list.now)))
 
 pub loop-i-preserved : goal.loop-i-preserved
 loop-i-preserved c = (

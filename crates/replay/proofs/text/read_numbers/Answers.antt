@@ -3,7 +3,7 @@ use native.Mathlib.Omega.{arith}
 use borrow.Author.Rules.{rules}
 use lib.Seq.{length-take-le}
 use lib.ListN.{length-set}
-use Rattle.replay.proofs.Stores.{store_none, store-full, store-large, store-end, store-number}
+use Rattle.replay.proofs.Stores.{store_none, store_full, store_large, store_end, store_number}
 use Rattle.replay.proofs.text.read_numbers.Goals as goal
 
 pub loop-count-init : goal.loop-count-init
@@ -17,7 +17,7 @@ pub loop-count-preserved : goal.loop-count-preserved
 loop-count-preserved c = (
   simp length-set (omega arith),
   simp length-set c.loop-count.invariant.1,
-  store-number c.loop-count.numbers c.loop-count.count c.args.text.now c.loop-count.at
+  store_number c.loop-count.numbers c.loop-count.count c.args.text.now c.loop-count.at
       c.loop-count-test.true (sym c.number_at.ensures ∙ c.in-Number.is)
       ∙ c.loop-count.invariant.2,
 )
@@ -25,20 +25,20 @@ loop-count-preserved c = (
 pub returns-in-TooLarge : goal.returns-in-TooLarge
 returns-in-TooLarge c = record {
   prefix_len = (search rules, sym (length-take-le _ _ c.loop-count.invariant.0));
-  whole_after = sym (store-large c.loop-count.numbers c.loop-count.count c.args.text.now c.loop-count.at
+  whole_after = sym (store_large c.loop-count.numbers c.loop-count.count c.args.text.now c.loop-count.at
       c.loop-count-test.true (sym c.number_at.ensures ∙ c.in-TooLarge.is)) ∙ c.loop-count.invariant.2;
 }
 
 pub returns-in-End : goal.returns-in-End
 returns-in-End c = record {
   prefix_len = (search rules, sym (length-take-le _ _ c.loop-count.invariant.0));
-  whole_after = sym (store-end c.loop-count.numbers c.loop-count.count c.args.text.now c.loop-count.at
+  whole_after = sym (store_end c.loop-count.numbers c.loop-count.count c.args.text.now c.loop-count.at
       c.loop-count-test.true (sym c.number_at.ensures ∙ c.in-End.is)) ∙ c.loop-count.invariant.2;
 }
 
 pub returns : goal.returns
 returns c = record {
   prefix_len = (search rules, sym (length-take-le _ _ c.loop-count.invariant.0));
-  whole_after = sym (store-full c.loop-count.numbers c.loop-count.count c.args.text.now c.loop-count.at
+  whole_after = sym (store_full c.loop-count.numbers c.loop-count.count c.args.text.now c.loop-count.at
       c.loop-count-test.false) ∙ c.loop-count.invariant.2;
 }

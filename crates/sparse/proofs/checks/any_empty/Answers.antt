@@ -1,12 +1,12 @@
 use mathlib.Core.Path.{◌≡◌, sym, ◌∙◌}
 use native.Mathlib.Omega.{arith}
 use Rattle.sparse.specs.Refusals.{empty_at}
-use Rattle.sparse.proofs.Search.{some-zero, some_more}
+use Rattle.sparse.proofs.Search.{some_zero, some_more}
 use Rattle.sparse.proofs.checks.any_empty.Goals as goal
 
 pub loop-c-init : goal.loop-c-init
 loop-c-init c =
-    (omega arith, sym (some-zero (empty_at c.args.starts.now)))
+    (omega arith, sym (some_zero (empty_at c.args.starts.now)))
 
 pub loop-c-preserved : goal.loop-c-preserved
 loop-c-preserved c = (

@@ -1,12 +1,12 @@
 use mathlib.Core.Path.{◌≡◌, sym, ◌∙◌}
 use native.Mathlib.Omega.{arith}
 use Rattle.sparse.specs.Refusals.{falls_at}
-use Rattle.sparse.proofs.Search.{some-zero, some_more}
+use Rattle.sparse.proofs.Search.{some_zero, some_more}
 use Rattle.sparse.proofs.checks.any_falls.Goals as goal
 
 pub loop-c-init : goal.loop-c-init
 loop-c-init c =
-    (omega arith, sym (some-zero (falls_at c.args.starts.now)))
+    (omega arith, sym (some_zero (falls_at c.args.starts.now)))
 
 pub loop-c-preserved : goal.loop-c-preserved
 loop-c-preserved c = (

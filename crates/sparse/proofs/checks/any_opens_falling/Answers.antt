@@ -2,12 +2,12 @@ use mathlib.Core.Path.{◌≡◌, sym, ◌∙◌}
 use native.Mathlib.Omega.{arith}
 use Rattle.sparse.specs.Parts.{opens_falling}
 use Rattle.sparse.proofs.Matrix.{column_end}
-use Rattle.sparse.proofs.Search.{some-zero, some_more}
+use Rattle.sparse.proofs.Search.{some_zero, some_more}
 use Rattle.sparse.proofs.checks.any_opens_falling.Goals as goal
 
 pub loop-c-init : goal.loop-c-init
 loop-c-init c =
-    (omega arith, sym (some-zero (opens_falling c.args.starts.now c.args.rows.now)))
+    (omega arith, sym (some_zero (opens_falling c.args.starts.now c.args.rows.now)))
 
 pub get-second-requires : goal.get-second-requires
 get-second-requires c =

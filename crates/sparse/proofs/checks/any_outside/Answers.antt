@@ -2,12 +2,12 @@ use mathlib.Core.Path.{◌≡◌, sym, ◌∙◌}
 use native.Mathlib.Omega.{arith}
 use lib.ListN.{length}
 use Rattle.sparse.specs.Refusals.{outside_at}
-use Rattle.sparse.proofs.Search.{some-zero, some_more}
+use Rattle.sparse.proofs.Search.{some_zero, some_more}
 use Rattle.sparse.proofs.checks.any_outside.Goals as goal
 
 pub loop-k-init : goal.loop-k-init
 loop-k-init c =
-    (omega arith, sym (some-zero (outside_at c.args.size c.args.rows.now)))
+    (omega arith, sym (some_zero (outside_at c.args.size c.args.rows.now)))
 
 pub loop-k-preserved : goal.loop-k-preserved
 loop-k-preserved c = (

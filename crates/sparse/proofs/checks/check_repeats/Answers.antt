@@ -3,7 +3,7 @@ use mathlib.Core.Path.{refl, sym, ◌∙◌}
 use native.Mathlib.Omega.{arith}
 use Rattle.graph.proofs.Counting.{some_at}
 use Rattle.sparse.specs.Refusals.{repeated_row}
-use Rattle.sparse.proofs.Refusals.{refused_none, some-refused}
+use Rattle.sparse.proofs.Refusals.{refused_none, some_refused}
 use Rattle.sparse.proofs.checks.check_repeats.Goals as goal
 
 pub returns-then-all_rise : goal.returns-then-all_rise
@@ -34,6 +34,6 @@ returns c =
     let told = c.count_repeats.ensures in
     let found = c.first_repeat.ensures in
     let k = told.counted.met (omega arith) in record {
-      value = c.refuse.ensures ∙ rw found.value (sym (some-refused 4 _ _ (some_at _ _ k.0 k.1 k.2)));
+      value = c.refuse.ensures ∙ rw found.value (sym (some_refused 4 _ _ (some_at _ _ k.0 k.1 k.2)));
       marks_unchanged = found.marks_unchanged ∙ told.marks_unchanged;
     }

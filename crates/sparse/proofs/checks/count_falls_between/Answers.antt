@@ -4,12 +4,12 @@ use native.Mathlib.Omega.{arith}
 use Rattle.graph.specs.Counting.{count}
 use Rattle.sparse.specs.Parts.{enters_falling}
 use Rattle.sparse.proofs.Matrix.{column_end}
-use Rattle.sparse.proofs.Rises.{count-zero, count_next, count_few}
+use Rattle.sparse.proofs.Rises.{count_zero, count_next, count_few}
 use Rattle.sparse.proofs.checks.count_falls_between.Goals as goal
 
 pub loop-c-init : goal.loop-c-init
 loop-c-init c =
-    (omega arith, sym (count-zero (enters_falling c.args.starts.now c.args.rows.now)))
+    (omega arith, sym (count_zero (enters_falling c.args.starts.now c.args.rows.now)))
 
 pub get-requires : goal.get-requires
 get-requires c =

@@ -4,7 +4,7 @@ use native.Mathlib.Omega.{arith}
 use borrow.Author.Rules.{rules}
 use lib.ListN.{length, get_or}
 use Rattle.sparse.specs.Parts.{marked, Counted}
-use Rattle.sparse.proofs.Marks.{unmark-mark}
+use Rattle.sparse.proofs.Marks.{unmark_mark}
 use Rattle.sparse.proofs.Matrix.{column_end}
 use Rattle.sparse.proofs.Tallies.{count_none, count_more}
 use Rattle.sparse.proofs.checks.count_repeats.Goals as goal
@@ -96,7 +96,7 @@ loop-c-preserved c =
     let same = c.loop-c.invariant.1 in (
       omega arith,
       c.unmark.ensures ∙ ap (marked rows 0 lo many) c.tally-again.ensures.marks_after
-          ∙ unmark-mark rows lo many c.loop-c.marks
+          ∙ unmark_mark rows lo many c.loop-c.marks
           (λ j a b. rw same (c.requires.size_in_bounds.1 _ (c.requires.shaped.1 j (omega (
             arith,
             ((let it : (c.get-lo.result ≤ c.get-hi.result)

@@ -3,12 +3,12 @@ use mathlib.Core.Path.{◌≡◌, sym}
 use native.Mathlib.Omega.{arith}
 use Rattle.graph.specs.Counting.{count}
 use Rattle.sparse.specs.Parts.{row_falls_at}
-use Rattle.sparse.proofs.Rises.{count-zero, count_next, count_few}
+use Rattle.sparse.proofs.Rises.{count_zero, count_next, count_few}
 use Rattle.sparse.proofs.checks.count_row_falls.Goals as goal
 
 pub loop-k-init : goal.loop-k-init
 loop-k-init c =
-    (omega arith, sym (count-zero (row_falls_at c.args.rows.now)))
+    (omega arith, sym (count_zero (row_falls_at c.args.rows.now)))
 
 pub overflow_add-falls : goal.overflow_add-falls
 overflow_add-falls c =

@@ -3,7 +3,7 @@ use Prim.Native.Nat.{◌-◌}
 use mathlib.Core.Path.{◌∙◌, ap}
 use native.Mathlib.Omega.{arith}
 use Rattle.sparse.specs.Parts.{marked}
-use Rattle.sparse.proofs.Marks.{unmark-mark}
+use Rattle.sparse.proofs.Marks.{unmark_mark}
 use Rattle.sparse.proofs.checks.find_repeat.Goals as goal
 
 pub unmark-requires : goal.unmark-requires
@@ -19,5 +19,5 @@ returns c =
     let scan = c.mark-k.ensures.scanned in record {
       scanned = scan;
       marks_unchanged = c.unmark.ensures ∙ ap (marked rows 0 lo many) c.mark-k.ensures.marks_after
-          ∙ unmark-mark rows lo many c.args.marks.now (λ j a b. c.requires.unmarked j (omega (arith, scan.to, scan.from)));
+          ∙ unmark_mark rows lo many c.args.marks.now (λ j a b. c.requires.unmarked j (omega (arith, scan.to, scan.from)));
     }

@@ -4,7 +4,7 @@ use native.Mathlib.Omega.{arith}
 use borrow.Author.Tests.{le-leb, lt-leb}
 use borrow.Author.Count.{below_more}
 use lib.ListN.{get_or}
-use Rattle.graph.proofs.Counting.{first_at, first-none}
+use Rattle.graph.proofs.Counting.{first_at, first_none}
 use Rattle.sparse.specs.Refusals.{empty_at}
 use Rattle.sparse.proofs.checks.first_empty.Goals as goal
 
@@ -27,4 +27,4 @@ loop-c-preserved c =
 pub returns : goal.returns
 returns c =
     let e : c.loop-c.c ≡ c.args.size = omega arith in
-    e ∙ sym (first-none (empty_at c.args.starts.now) c.args.size (λ k l. c.loop-c.invariant.1 k (omega arith)))
+    e ∙ sym (first_none (empty_at c.args.starts.now) c.args.size (λ k l. c.loop-c.invariant.1 k (omega arith)))

@@ -3,7 +3,7 @@ use native.Mathlib.Omega.{arith}
 use borrow.Author.Tests.{le-leb, lt-leb}
 use borrow.Author.Count.{below_more}
 use lib.ListN.{length, get_or}
-use Rattle.graph.proofs.Counting.{first_at, first-none}
+use Rattle.graph.proofs.Counting.{first_at, first_none}
 use Rattle.sparse.specs.Refusals.{outside_at}
 use Rattle.sparse.proofs.checks.first_outside.Goals as goal
 
@@ -27,4 +27,4 @@ pub returns : goal.returns
 returns c =
     let rows = c.args.rows.now in
     let e : c.loop-k.k ≡ length rows = omega arith in
-    e ∙ sym (first-none (outside_at c.args.size rows) (length rows) (λ j l. c.loop-k.invariant.1 j (omega arith)))
+    e ∙ sym (first_none (outside_at c.args.size rows) (length rows) (λ j l. c.loop-k.invariant.1 j (omega arith)))

@@ -3,7 +3,7 @@ use mathlib.Core.Path.{◌≡◌, sym, ◌∙◌, ap}
 use native.Mathlib.Omega.{arith}
 use borrow.Author.Rules.{rules}
 use lib.ListN.{length, get_or}
-use Rattle.graph.proofs.Counting.{first_at, first-none}
+use Rattle.graph.proofs.Counting.{first_at, first_none}
 use Rattle.sparse.proofs.Matrix.{column_end}
 use Rattle.sparse.proofs.Scans.{none_scanned, one_scanned}
 use Rattle.sparse.proofs.checks.first_repeat.Goals as goal
@@ -73,6 +73,6 @@ returns c =
     let starts = c.args.starts.now in
     let rows = c.args.rows.now in
     let end : get_or starts c.loop-c.c 0 ≡ length rows = rw e c.requires.shaped.0.to_end in record {
-      value = sym (first-none _ _ (λ k l. c.loop-c.invariant.2 k (rw end l)));
+      value = sym (first_none _ _ (λ k l. c.loop-c.invariant.2 k (rw end l)));
       marks_unchanged = c.loop-c.invariant.1;
     }

@@ -1,14 +1,14 @@
 use mathlib.Core.Path.{◌≡◌, sym, ◌∙◌}
 use native.Mathlib.Omega.{arith}
 use borrow.Author.Rules.{rules}
-use Rattle.sparse.proofs.Marks.{mark_more, mark-none}
+use Rattle.sparse.proofs.Marks.{mark_more, mark_none}
 use Rattle.sparse.proofs.Scans.{scan_found, scan_more}
 use Rattle.sparse.proofs.checks.mark.Goals as goal
 
 pub loop-k-init : goal.loop-k-init
 loop-k-init c = (
   search rules,
-  sym (mark-none _ _ _ _),
+  sym (mark_none _ _ _ _),
   record { from = omega arith; to = omega arith; apart = λ j k a b d e. omega arith; met = λ h. absurd (omega arith) },
   search rules,
 )

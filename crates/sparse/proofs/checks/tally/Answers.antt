@@ -3,12 +3,12 @@ use mathlib.Core.Path.{◌≡◌, sym, ◌∙◌}
 use native.Mathlib.Omega.{arith}
 use borrow.Author.Rules.{rules}
 use Rattle.sparse.specs.Parts.{Tallied}
-use Rattle.sparse.proofs.Marks.{mark_more, mark-none}
-use Rattle.sparse.proofs.Tallies.{tally-none, tally_more}
+use Rattle.sparse.proofs.Marks.{mark_more, mark_none}
+use Rattle.sparse.proofs.Tallies.{tally_none, tally_more}
 use Rattle.sparse.proofs.checks.tally.Goals as goal
 
 pub loop-k-init : goal.loop-k-init
-loop-k-init c = (search rules, sym (mark-none _ _ _ _), tally-none _ _, search rules, search rules)
+loop-k-init c = (search rules, sym (mark_none _ _ _ _), tally_none _ _, search rules, search rules)
 
 pub by_row-seen-requires : goal.by_row-seen-requires
 by_row-seen-requires c =

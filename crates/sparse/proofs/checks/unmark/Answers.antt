@@ -1,11 +1,11 @@
 use mathlib.Core.Path.{◌≡◌, sym, ◌∙◌}
 use native.Mathlib.Omega.{arith}
 use borrow.Author.Rules.{rules}
-use Rattle.sparse.proofs.Marks.{mark_more, mark-none}
+use Rattle.sparse.proofs.Marks.{mark_more, mark_none}
 use Rattle.sparse.proofs.checks.unmark.Goals as goal
 
 pub loop-k-init : goal.loop-k-init
-loop-k-init c = (search rules, sym (mark-none _ _ _ _), search rules, search rules)
+loop-k-init c = (search rules, sym (mark_none _ _ _ _), search rules, search rules)
 
 pub put_by_row-requires : goal.put_by_row-requires
 put_by_row-requires c =

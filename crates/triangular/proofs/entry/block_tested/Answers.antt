@@ -8,7 +8,7 @@ use Rattle.sparse.proofs.Matrix.{column_once}
 use Rattle.sparse.proofs.Buffers.{zero_below}
 use Rattle.triangular.specs.Outcome.{work, outputs}
 use Rattle.triangular.proofs.Outcome.{repeat_formed, verdict_formed}
-use Rattle.triangular.proofs.Valid.{cleared-first}
+use Rattle.triangular.proofs.Valid.{cleared_first}
 use Rattle.triangular.proofs.entry.block_tested.Goals as goal
 
 pub clear-requires : goal.clear-requires
@@ -29,7 +29,7 @@ pub returns-in-Refused : goal.returns-in-Refused
 returns-in-Refused c = record {
   blockstarts_after = λ w. repeat_formed c.args.size c.args.starts.now c.args.rows.now w (outputs c.args.row2col.now c.args.hall.now c.args.blockcols.now c.args.blockstarts.now)
       _ (sym c.check_repeats-repeats.ensures.value ∙ c.in-Refused.is);
-  sat_unchanged = cleared-first c.args.size (length c.args.rows.now) (work c.args.visited.now c.args.cheap.now c.args.finished.now c.args.col2row.now c.args.backstarts.now
+  sat_unchanged = cleared_first c.args.size (length c.args.rows.now) (work c.args.visited.now c.args.cheap.now c.args.finished.now c.args.col2row.now c.args.backstarts.now
       c.args.backrows.now c.args.scol.now c.args.sat.now) _ _ c.clear.ensures c.check_repeats-repeats.ensures.marks_unchanged;
 }
 
@@ -68,6 +68,6 @@ returns c =
       blockstarts_after = λ w. c.block_valid.ensures.blockstarts_after w ∙ verdict_formed c.args.size c.args.starts.now
           c.args.rows.now w (outputs c.args.row2col.now c.args.hall.now c.args.blockcols.now c.args.blockstarts.now) once;
       sat_unchanged = c.block_valid.ensures.sat_unchanged
-          ∙ cleared-first c.args.size (length c.args.rows.now) (work c.args.visited.now c.args.cheap.now c.args.finished.now c.args.col2row.now c.args.backstarts.now
+          ∙ cleared_first c.args.size (length c.args.rows.now) (work c.args.visited.now c.args.cheap.now c.args.finished.now c.args.col2row.now c.args.backstarts.now
           c.args.backrows.now c.args.scol.now c.args.sat.now) _ _ c.clear.ensures c.check_repeats-repeats.ensures.marks_unchanged;
     }

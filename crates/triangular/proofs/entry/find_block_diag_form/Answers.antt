@@ -9,7 +9,7 @@ use Rattle.sparse.specs.declared.Checked.TheVariants as checked
 use Rattle.sparse.proofs.Early.{Early, early_passed}
 use Rattle.triangular.specs.Outcome.{work, outputs, lent, buffers, work_buffers, output_buffers}
 use Rattle.triangular.proofs.Room.{work_kept, roomy_split}
-use Rattle.triangular.proofs.Outcome.{early-outcome, outcome_means}
+use Rattle.triangular.proofs.Outcome.{early_outcome, outcome_means}
 use Rattle.triangular.proofs.Valid.{tested_exit}
 use Rattle.triangular.proofs.entry.find_block_diag_form.Goals as goal
 
@@ -22,7 +22,7 @@ returns-in-Refused c =
     (outputs c.args.row2col.now c.args.hall.now c.args.blockcols.now c.args.blockstarts.now))) (c.lacks_room-short.ensures c.args.backrows.now
     (length c.args.rows.now) (c.is_less-few.ensures
     ∙ ap (λ (t : ℕ). ltb (length c.args.backrows.now) t) c.entries_need.ensures)) in
-    let e = early-outcome c.args.size c.args.starts.now c.args.rows.now (lent (work c.args.visited.now c.args.cheap.now c.args.finished.now c.args.col2row.now c.args.backstarts.now
+    let e = early_outcome c.args.size c.args.starts.now c.args.rows.now (lent (work c.args.visited.now c.args.cheap.now c.args.finished.now c.args.col2row.now c.args.backstarts.now
     c.args.backrows.now c.args.scol.now c.args.sat.now)
     (outputs c.args.row2col.now c.args.hall.now c.args.blockcols.now c.args.blockstarts.now)) _
     (sym found ∙ c.in-Refused.is) in record {

@@ -1,6 +1,6 @@
 -- `block_matched` meets its contract: what each part leaves is what the next needs.
 use Rattle.blocks.proofs.Joined.{finished_ready}
-use Rattle.triangular.proofs.UnderMatching.{first_ready, inverse-filled, reverse_room, second_shaped, second_ready, matched-holds}
+use Rattle.triangular.proofs.UnderMatching.{first_ready, inverse-filled, reverse_room, second_shaped, second_ready, matched_holds}
 use Rattle.triangular.proofs.UnderMatching.{matched_same}
 use native.Mathlib.Omega.{arith}
 use Rattle.triangular.proofs.matched.block_matched.Goals as goal
@@ -111,7 +111,7 @@ shape_of-blockcols c =
 
 pub returns : goal.returns
 returns c = record {
-  holds_blocks = matched-holds c.requires.shaped.small c.requires.reversible.0 ((inverse-filled _ c.args.col2row.now
+  holds_blocks = matched_holds c.requires.shaped.small c.requires.reversible.0 ((inverse-filled _ c.args.col2row.now
       c.requires.reversible.0.permutes c.invert_matching.ensures)) ((reverse_room c.requires.reversible.1 (omega (arith, c.requires.roomy.1.1.1.1.0, c.reverse_graph.auto)) (omega (
         arith,
         c.requires.roomy.1.1.1.1.1.0,
