@@ -13,8 +13,10 @@ import re
 import sys
 
 HERE = os.path.dirname(os.path.realpath(__file__))
-# A name behind `c.` is the check's own.
-WORD = re.compile(r"(?<!\bc\.)(?<![^\s(){}\[\]:;,.«»\"`])[^\s(){}\[\]:;,.«»\"`]+")
+WORD = re.compile(r"[^\s(){}\[\]:;,.«»\"`]+")
+
+# In answers a name behind `c.` is the check's own.
+OURS = re.compile(r"(?<!\bc\.)(?<![^\s(){}\[\]:;,.«»\"`])[^\s(){}\[\]:;,.«»\"`]+")
 
 # Names that the kit's port.py respelled, since a library has the same spelling: in edits they are still the old ones.
 KIT = "add-at countOf emptyAt inRow markOf numberAt numberOf partOf placeOf rowsFrom storedBlock"
@@ -38,7 +40,7 @@ def files(root):
 
 
 def turned(text, names):
-    return WORD.sub(lambda m: names.get(m.group(0), m.group(0)), text)
+    return (OURS if sys.argv[1:] else WORD).sub(lambda m: names.get(m.group(0), m.group(0)), text)
 
 
 def turned_edit(text, names):
