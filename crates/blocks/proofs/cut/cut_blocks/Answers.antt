@@ -25,6 +25,7 @@ column_at-c-requires c =
 
 pub walk_new-end-requires : goal.walk_new-end-requires
 walk_new-end-requires c =
+    -- it is made from a column
     let low : c.column_at-c.result.0 < c.args.size = subst (λ (x : ℕ). x < c.args.size) (sym c.column_at-c.ensures)
     (seconds_column c.loop-i.invariant (c.loop-i.i - 1) (omega (arith, c.loop-i-test.true))) in record {
       shaped = c.requires.shaped;
@@ -34,8 +35,10 @@ walk_new-end-requires c =
 
 pub end_block-blocks-requires : goal.end_block-blocks-requires
 end_block-blocks-requires c =
+    -- it is made from a column
     let low : c.column_at-c.result.0 < c.args.size = subst (λ (x : ℕ). x < c.args.size) (sym c.column_at-c.ensures)
     (seconds_column c.loop-i.invariant (c.loop-i.i - 1) (omega (arith, c.loop-i-test.true))) in
+    -- what the walk of this turn leaves
     let made : Turn c.args.size (column_or c.args.starts.now
     c.args.rows.now none [])
     c.args.row2col.now c.column_at-c.result.0 second_pass c.loop-i.count c.loop-i.visited c.loop-i.scol c.loop-i.sat c.loop-i.entered
@@ -54,6 +57,7 @@ end_block-blocks-requires c =
 
 pub loop-i-preserved : goal.loop-i-preserved
 loop-i-preserved c =
+    -- what the walk of this turn leaves
     let made : Turn c.args.size (column_or c.args.starts.now
     c.args.rows.now none [])
     c.args.row2col.now c.column_at-c.result.0 second_pass c.loop-i.count c.loop-i.visited c.loop-i.scol c.loop-i.sat c.loop-i.entered
@@ -71,30 +75,6 @@ loop-i-preserved c =
     seconds_more (c.loop-i.i - 1) c.loop-i.invariant (omega (arith, c.loop-i-test.true))
     c.column_at-c.ensures made c.end_block-blocks.ensures
     (omega (arith, c.end_block-blocks.auto))
-
-pub shape_of-visited : goal.shape_of-visited
-shape_of-visited c =
-    omega (arith, c.loop-i.invariant.pass.stamps_kept.same_length)
-
-pub shape_of-scol : goal.shape_of-scol
-shape_of-scol c =
-    omega (arith, c.loop-i.invariant.pass.cols_kept.same_length)
-
-pub shape_of-sat : goal.shape_of-sat
-shape_of-sat c =
-    omega (arith, c.loop-i.invariant.pass.places_kept.same_length)
-
-pub shape_of-entered : goal.shape_of-entered
-shape_of-entered c =
-    omega (arith, c.loop-i.invariant.pass.entered_kept.same_length)
-
-pub shape_of-scratch : goal.shape_of-scratch
-shape_of-scratch c =
-    omega (arith, c.loop-i.invariant.pass.finished_kept.same_length)
-
-pub shape_of-blockstarts : goal.shape_of-blockstarts
-shape_of-blockstarts c =
-    omega (arith, c.loop-i.invariant.starts_length, c.clear.auto)
 
 pub returns : goal.returns
 returns c =

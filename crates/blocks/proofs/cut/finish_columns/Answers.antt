@@ -17,6 +17,7 @@ walk_new-count-requires c = record {
 
 pub loop-c-preserved : goal.loop-c-preserved
 loop-c-preserved c =
+    -- what the walk of this turn leaves
     let made : Turn c.args.size (column_or c.args.starts.now c.args.rows.now c.args.edited.0
     c.args.replacement.now) c.args.row2col.now c.loop-c.c first_pass c.loop-c.count c.loop-c.visited c.loop-c.scol c.loop-c.sat c.loop-c.entered c.loop-c.finished
     c.walk_new-count.new.visited c.walk_new-count.new.scol c.walk_new-count.new.sat c.walk_new-count.new.entered c.walk_new-count.new.finished c.walk_new-count.result = record {
@@ -29,26 +30,6 @@ loop-c-preserved c =
       finished_length = omega (arith, c.walk_new-count.auto);
     } in
     firsts_more c.loop-c.invariant c.loop-c-test.true made
-
-pub shape_of-visited : goal.shape_of-visited
-shape_of-visited c =
-    omega (arith, c.loop-c.invariant.pass.stamps_kept.same_length)
-
-pub shape_of-scol : goal.shape_of-scol
-shape_of-scol c =
-    omega (arith, c.loop-c.invariant.pass.cols_kept.same_length)
-
-pub shape_of-sat : goal.shape_of-sat
-shape_of-sat c =
-    omega (arith, c.loop-c.invariant.pass.places_kept.same_length)
-
-pub shape_of-entered : goal.shape_of-entered
-shape_of-entered c =
-    omega (arith, c.loop-c.invariant.pass.entered_kept.same_length)
-
-pub shape_of-finished : goal.shape_of-finished
-shape_of-finished c =
-    omega (arith, c.loop-c.invariant.pass.finished_kept.same_length)
 
 pub returns : goal.returns
 returns c = record {

@@ -22,29 +22,35 @@ loop-depth-init c =
 
 pub column_at-c-requires : goal.column_at-c-requires
 column_at-c-requires c =
+    -- there is room for the step on top
     let room : c.loop-depth.depth - 1 < c.args.size = top_room (at_top c.loop-depth.invariant c.loop-depth-test.true) in
     omega (arith, room, c.loop-depth.invariant.slices.cols_kept.long)
 
 pub col_rows-col-requires : goal.col_rows-col-requires
 col_rows-col-requires c =
+    -- its column is below the size
     let low : c.column_at-c.result.0 < c.args.size = omega (arith, c.column_at-c.ensures, top_below (at_top c.loop-depth.invariant c.loop-depth-test.true)) in
     (c.requires.shaped, low)
 
 pub by_column-requires : goal.by_column-requires
 by_column-requires c =
+    -- its column is below the size
     let low : c.column_at-c.result.0 < c.args.size = omega (arith, c.column_at-c.ensures, top_below (at_top c.loop-depth.invariant c.loop-depth-test.true)) in
     omega (arith, low, c.loop-depth.invariant.slices.stamps_kept.long)
 
 pub put_by_column-requires : goal.put_by_column-requires
 put_by_column-requires c =
+    -- its column is below the size
     let low : c.column_at-c.result.0 < c.args.size = omega (arith, c.column_at-c.ensures, top_below (at_top c.loop-depth.invariant c.loop-depth-test.true)) in
     omega (arith, low, c.loop-depth.invariant.slices.stamps_kept.long)
 
 pub put_column-requires-then-by_column-mark : goal.put_column-requires-then-by_column-mark
 put_column-requires-then-by_column-mark c =
+    -- the column in hand is the one on top, with its rows
     let hand : Hand (column_or c.args.starts.now c.args.rows.now
     c.args.edited.0 c.args.replacement.now) c.loop-depth.scol
     (c.loop-depth.depth - 1) c.column_at-c.result.0 c.col_rows-col.result.now = record { column = c.column_at-c.ensures; rows = c.col_rows-col.ensures } in
+    -- in the first arm it is not visited
     let fresh : get_or c.loop-depth.visited c.column_at-c.result.0 0 ≢ c.args.mark = λ z. c.if-by_column-mark.true (c.by_column.ensures ∙ z) in
     omega (
       arith,
@@ -54,9 +60,11 @@ put_column-requires-then-by_column-mark c =
 
 pub overflow_add-e : goal.overflow_add-e
 overflow_add-e c =
+    -- the column in hand is the one on top, with its rows
     let hand : Hand (column_or c.args.starts.now c.args.rows.now
     c.args.edited.0 c.args.replacement.now) c.loop-depth.scol
     (c.loop-depth.depth - 1) c.column_at-c.result.0 c.col_rows-col.result.now = record { column = c.column_at-c.ensures; rows = c.col_rows-col.ensures } in
+    -- in the first arm it is not visited
     let fresh : get_or c.loop-depth.visited c.column_at-c.result.0 0 ≢ c.args.mark = λ z. c.if-by_column-mark.true (c.by_column.ensures ∙ z) in
     omega (
       arith,
@@ -66,10 +74,13 @@ overflow_add-e c =
 
 pub advance-depth-requires : goal.advance-depth-requires
 advance-depth-requires c =
+    -- the column in hand is the one on top, with its rows
     let hand : Hand (column_or c.args.starts.now c.args.rows.now
     c.args.edited.0 c.args.replacement.now) c.loop-depth.scol
     (c.loop-depth.depth - 1) c.column_at-c.result.0 c.col_rows-col.result.now = record { column = c.column_at-c.ensures; rows = c.col_rows-col.ensures } in
+    -- in the first arm it is not visited
     let fresh : get_or c.loop-depth.visited c.column_at-c.result.0 0 ≢ c.args.mark = λ z. c.if-by_column-mark.true (c.by_column.ensures ∙ z) in
+    -- a column has no more rows than there may be entries
     let few : length c.col_rows-col.result.now ≤ max_entries = rw c.col_rows-col.ensures (c.requires.walk_ready.short c.column_at-c.result.0) in
     let R = scan_ready (arm_enter c.loop-depth.invariant c.loop-depth-test.true hand fresh
     c.put_by_column.ensures c.put_column-then-by_column-mark.ensures) hand
@@ -81,9 +92,11 @@ advance-depth-requires c =
 
 pub leave-f-requires : goal.leave-f-requires
 leave-f-requires c =
+    -- the column in hand is the one on top, with its rows
     let hand : Hand (column_or c.args.starts.now c.args.rows.now
     c.args.edited.0 c.args.replacement.now) c.loop-depth.scol
     (c.loop-depth.depth - 1) c.column_at-c.result.0 c.col_rows-col.result.now = record { column = c.column_at-c.ensures; rows = c.col_rows-col.ensures } in
+    -- in the first arm it is not visited
     let fresh : get_or c.loop-depth.visited c.column_at-c.result.0 0 ≢ c.args.mark = λ z. c.if-by_column-mark.true (c.by_column.ensures ∙ z) in
     let room = finish_room (arm_enter c.loop-depth.invariant c.loop-depth-test.true hand fresh
     c.put_by_column.ensures c.put_column-then-by_column-mark.ensures) in
@@ -91,9 +104,11 @@ leave-f-requires c =
 
 pub loop-depth-smaller-then-by_column-mark : goal.loop-depth-smaller-then-by_column-mark
 loop-depth-smaller-then-by_column-mark c =
+    -- the column in hand is the one on top, with its rows
     let hand : Hand (column_or c.args.starts.now c.args.rows.now
     c.args.edited.0 c.args.replacement.now) c.loop-depth.scol
     (c.loop-depth.depth - 1) c.column_at-c.result.0 c.col_rows-col.result.now = record { column = c.column_at-c.ensures; rows = c.col_rows-col.ensures } in
+    -- in the first arm it is not visited
     let fresh : get_or c.loop-depth.visited c.column_at-c.result.0 0 ≢ c.args.mark = λ z. c.if-by_column-mark.true (c.by_column.ensures ∙ z) in
     fall_enter c.loop-depth.e c.loop-depth-test.true (arm_enter c.loop-depth.invariant c.loop-depth-test.true
     hand fresh c.put_by_column.ensures c.put_column-then-by_column-mark.ensures)
@@ -101,9 +116,11 @@ loop-depth-smaller-then-by_column-mark c =
 
 pub loop-depth-preserved-then-by_column-mark : goal.loop-depth-preserved-then-by_column-mark
 loop-depth-preserved-then-by_column-mark c =
+    -- the column in hand is the one on top, with its rows
     let hand : Hand (column_or c.args.starts.now c.args.rows.now
     c.args.edited.0 c.args.replacement.now) c.loop-depth.scol
     (c.loop-depth.depth - 1) c.column_at-c.result.0 c.col_rows-col.result.now = record { column = c.column_at-c.ensures; rows = c.col_rows-col.ensures } in
+    -- in the first arm it is not visited
     let fresh : get_or c.loop-depth.visited c.column_at-c.result.0 0 ≢ c.args.mark = λ z. c.if-by_column-mark.true (c.by_column.ensures ∙ z) in
     arm_on (arm_enter c.loop-depth.invariant c.loop-depth-test.true hand fresh
     c.put_by_column.ensures c.put_column-then-by_column-mark.ensures) hand
@@ -111,15 +128,19 @@ loop-depth-preserved-then-by_column-mark c =
 
 pub get-next-requires : goal.get-next-requires
 get-next-requires c =
+    -- there is room for the step on top
     let room : c.loop-depth.depth - 1 < c.args.size = top_room (at_top c.loop-depth.invariant c.loop-depth-test.true) in
     omega (arith, room, c.loop-depth.invariant.slices.places_kept.long)
 
 pub overflow_add-next : goal.overflow_add-next
 overflow_add-next c =
+    -- the column in hand is the one on top, with its rows
     let hand : Hand (column_or c.args.starts.now c.args.rows.now
     c.args.edited.0 c.args.replacement.now) c.loop-depth.scol
     (c.loop-depth.depth - 1) c.column_at-c.result.0 c.col_rows-col.result.now = record { column = c.column_at-c.ensures; rows = c.col_rows-col.ensures } in
+    -- in the other it is
     let marked : get_or c.loop-depth.visited c.column_at-c.result.0 0 ≡ c.args.mark = sym c.by_column.ensures ∙ c.if-by_column-mark.false in
+    -- a column has no more rows than there may be entries
     let few : length c.col_rows-col.result.now ≤ max_entries = rw c.col_rows-col.ensures (c.requires.walk_ready.short c.column_at-c.result.0) in
     omega (
       arith,
@@ -130,10 +151,13 @@ overflow_add-next c =
 
 pub advance-depth-requires-else-by_column-mark : goal.advance-depth-requires-else-by_column-mark
 advance-depth-requires-else-by_column-mark c =
+    -- the column in hand is the one on top, with its rows
     let hand : Hand (column_or c.args.starts.now c.args.rows.now
     c.args.edited.0 c.args.replacement.now) c.loop-depth.scol
     (c.loop-depth.depth - 1) c.column_at-c.result.0 c.col_rows-col.result.now = record { column = c.column_at-c.ensures; rows = c.col_rows-col.ensures } in
+    -- in the other it is
     let marked : get_or c.loop-depth.visited c.column_at-c.result.0 0 ≡ c.args.mark = sym c.by_column.ensures ∙ c.if-by_column-mark.false in
+    -- a column has no more rows than there may be entries
     let few : length c.col_rows-col.result.now ≤ max_entries = rw c.col_rows-col.ensures (c.requires.walk_ready.short c.column_at-c.result.0) in
     let R = scan_ready (arm_again {from = c.get-next.result + 1} c.loop-depth.invariant c.loop-depth-test.true hand marked (omega (arith, c.get-next.ensures))) hand c.requires.shaped.small few in record {
       col_len_bound = R.short;
@@ -143,9 +167,11 @@ advance-depth-requires-else-by_column-mark c =
 
 pub leave-f-requires-else-by_column-mark : goal.leave-f-requires-else-by_column-mark
 leave-f-requires-else-by_column-mark c =
+    -- the column in hand is the one on top, with its rows
     let hand : Hand (column_or c.args.starts.now c.args.rows.now
     c.args.edited.0 c.args.replacement.now) c.loop-depth.scol
     (c.loop-depth.depth - 1) c.column_at-c.result.0 c.col_rows-col.result.now = record { column = c.column_at-c.ensures; rows = c.col_rows-col.ensures } in
+    -- in the other it is
     let marked : get_or c.loop-depth.visited c.column_at-c.result.0 0 ≡ c.args.mark = sym c.by_column.ensures ∙ c.if-by_column-mark.false in
     let room = finish_room (arm_again {from = c.get-next.result + 1} c.loop-depth.invariant c.loop-depth-test.true
     hand marked (omega (arith, c.get-next.ensures))) in
@@ -153,39 +179,23 @@ leave-f-requires-else-by_column-mark c =
 
 pub loop-depth-smaller : goal.loop-depth-smaller
 loop-depth-smaller c =
+    -- the column in hand is the one on top, with its rows
     let hand : Hand (column_or c.args.starts.now c.args.rows.now
     c.args.edited.0 c.args.replacement.now) c.loop-depth.scol
     (c.loop-depth.depth - 1) c.column_at-c.result.0 c.col_rows-col.result.now = record { column = c.column_at-c.ensures; rows = c.col_rows-col.ensures } in
+    -- in the other it is
     let marked : get_or c.loop-depth.visited c.column_at-c.result.0 0 ≡ c.args.mark = sym c.by_column.ensures ∙ c.if-by_column-mark.false in
     fall_again c.loop-depth-test.true (arm_again {from = c.get-next.result + 1} c.loop-depth.invariant c.loop-depth-test.true hand marked (omega (arith, c.get-next.ensures))) c.advance-depth-else-by_column-mark.ensures c.leave-f-else-by_column-mark.ensures
 
 pub loop-depth-preserved : goal.loop-depth-preserved
 loop-depth-preserved c =
+    -- the column in hand is the one on top, with its rows
     let hand : Hand (column_or c.args.starts.now c.args.rows.now
     c.args.edited.0 c.args.replacement.now) c.loop-depth.scol
     (c.loop-depth.depth - 1) c.column_at-c.result.0 c.col_rows-col.result.now = record { column = c.column_at-c.ensures; rows = c.col_rows-col.ensures } in
+    -- in the other it is
     let marked : get_or c.loop-depth.visited c.column_at-c.result.0 0 ≡ c.args.mark = sym c.by_column.ensures ∙ c.if-by_column-mark.false in
     arm_on (arm_again {from = c.get-next.result + 1} c.loop-depth.invariant c.loop-depth-test.true hand marked (omega (arith, c.get-next.ensures))) hand c.advance-depth-else-by_column-mark.ensures c.leave-f-else-by_column-mark.ensures
-
-pub shape_of-visited : goal.shape_of-visited
-shape_of-visited c =
-    omega (arith, c.loop-depth.invariant.slices.stamps_kept.same_length)
-
-pub shape_of-scol : goal.shape_of-scol
-shape_of-scol c =
-    omega (arith, c.loop-depth.invariant.slices.cols_kept.same_length, c.put_column.auto.s)
-
-pub shape_of-sat : goal.shape_of-sat
-shape_of-sat c =
-    omega (arith, c.loop-depth.invariant.slices.places_kept.same_length)
-
-pub shape_of-entered : goal.shape_of-entered
-shape_of-entered c =
-    omega (arith, c.loop-depth.invariant.slices.entered_kept.same_length)
-
-pub shape_of-finished : goal.shape_of-finished
-shape_of-finished c =
-    omega (arith, c.loop-depth.invariant.slices.finished_kept.same_length)
 
 pub returns : goal.returns
 returns c = record {

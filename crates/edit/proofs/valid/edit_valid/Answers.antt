@@ -2,7 +2,7 @@
 use Rattle.edit.proofs.ValidEdit.{Searched, edit_unused, cleared_beyond, searched_reversible, searched_room}
 use Rattle.edit.proofs.ValidEdit.{searched_accepted, searched_refused, searched_cleared, passed_cleared}
 use Rattle.edit.proofs.EditedEntries.{entries_few}
-use Rattle.triangular.specs.Outcome.{work, outputs, lent}
+use Rattle.triangular.specs.Outcome.{Lent, work, outputs, lent}
 use mathlib.Core.Path.{◌∙◌}
 use native.Mathlib.Omega.{arith}
 use Rattle.edit.proofs.valid.edit_valid.Goals as goal
@@ -17,10 +17,13 @@ rematch-end-requires c = record {
 
 pub refuse_edit-requires : goal.refuse_edit-requires
 refuse_edit-requires c =
-    let searched : (Searched c.args.size c.args.starts.now c.args.rows.now c.args.edited.0
-    c.args.replacement.now (lent (work c.args.visited.now c.args.cheap.now c.args.finished.now c.args.col2row.now
+    -- what is lent
+    let lent_at : Lent = lent (work c.args.visited.now c.args.cheap.now c.args.finished.now c.args.col2row.now
     c.args.backstarts.now c.args.backrows.now c.args.scol.now c.args.sat.now)
-    (outputs c.args.row2col.now c.args.hall.now c.args.blockcols.now c.args.blockstarts.now)) c.rematch-end.result c.rematch-end.new.visited
+    (outputs c.args.row2col.now c.args.hall.now c.args.blockcols.now c.args.blockstarts.now) in
+    -- it leaves what the rest needs
+    let searched : (Searched c.args.size c.args.starts.now c.args.rows.now c.args.edited.0
+    c.args.replacement.now lent_at c.rematch-end.result c.rematch-end.new.visited
     c.rematch-end.new.cheap c.rematch-end.new.scol
     c.rematch-end.new.sat c.rematch-end.new.row2col) = record {
       given = c.requires.given;
@@ -51,38 +54,15 @@ refuse_edit-requires c =
       );
     }
 
-pub shape_of-visited-then-end-size : goal.shape_of-visited-then-end-size
-shape_of-visited-then-end-size c =
-    let searched : (Searched c.args.size c.args.starts.now c.args.rows.now c.args.edited.0
-    c.args.replacement.now (lent (work c.args.visited.now c.args.cheap.now c.args.finished.now c.args.col2row.now
-    c.args.backstarts.now c.args.backrows.now c.args.scol.now c.args.sat.now)
-    (outputs c.args.row2col.now c.args.hall.now c.args.blockcols.now c.args.blockstarts.now)) c.rematch-end.result c.rematch-end.new.visited
-    c.rematch-end.new.cheap c.rematch-end.new.scol
-    c.rematch-end.new.sat c.rematch-end.new.row2col) = record {
-      given = c.requires.given;
-      ends = c.rematch-end.ensures.ends_at;
-      kept = c.rematch-end.ensures.row2col_unchanged;
-      matching = c.rematch-end.ensures.same_beyond;
-      visited = cleared_beyond c.args.size c.args.visited.now _ _ c.clear.ensures
-          c.rematch-end.ensures.work_beyond.0;
-      cheap = cleared_beyond c.args.size c.args.cheap.now _ _ c.clear-2.ensures
-          c.rematch-end.ensures.work_beyond.1;
-      cols = c.rematch-end.ensures.work_beyond.2;
-      places = c.rematch-end.ensures.work_beyond.3;
-      matching_length = c.rematch-end.auto.row2col;
-      visited_length = omega (arith, c.rematch-end.auto.visited, c.clear.auto.s);
-      cheap_length = omega (arith, c.rematch-end.auto.cheap, c.clear-2.auto.s);
-      cols_length = c.rematch-end.auto.scol;
-      places_length = c.rematch-end.auto.sat;
-    } in
-    searched.visited_length
-
 pub returns-then-end-size : goal.returns-then-end-size
 returns-then-end-size c =
-    let searched : (Searched c.args.size c.args.starts.now c.args.rows.now c.args.edited.0
-    c.args.replacement.now (lent (work c.args.visited.now c.args.cheap.now c.args.finished.now c.args.col2row.now
+    -- what is lent
+    let lent_at : Lent = lent (work c.args.visited.now c.args.cheap.now c.args.finished.now c.args.col2row.now
     c.args.backstarts.now c.args.backrows.now c.args.scol.now c.args.sat.now)
-    (outputs c.args.row2col.now c.args.hall.now c.args.blockcols.now c.args.blockstarts.now)) c.rematch-end.result c.rematch-end.new.visited
+    (outputs c.args.row2col.now c.args.hall.now c.args.blockcols.now c.args.blockstarts.now) in
+    -- it leaves what the rest needs
+    let searched : (Searched c.args.size c.args.starts.now c.args.rows.now c.args.edited.0
+    c.args.replacement.now lent_at c.rematch-end.result c.rematch-end.new.visited
     c.rematch-end.new.cheap c.rematch-end.new.scol
     c.rematch-end.new.sat c.rematch-end.new.row2col) = record {
       given = c.requires.given;
@@ -109,10 +89,13 @@ returns-then-end-size c =
 
 pub clear-requires-3 : goal.clear-requires-3
 clear-requires-3 c =
-    let searched : (Searched c.args.size c.args.starts.now c.args.rows.now c.args.edited.0
-    c.args.replacement.now (lent (work c.args.visited.now c.args.cheap.now c.args.finished.now c.args.col2row.now
+    -- what is lent
+    let lent_at : Lent = lent (work c.args.visited.now c.args.cheap.now c.args.finished.now c.args.col2row.now
     c.args.backstarts.now c.args.backrows.now c.args.scol.now c.args.sat.now)
-    (outputs c.args.row2col.now c.args.hall.now c.args.blockcols.now c.args.blockstarts.now)) c.rematch-end.result c.rematch-end.new.visited
+    (outputs c.args.row2col.now c.args.hall.now c.args.blockcols.now c.args.blockstarts.now) in
+    -- it leaves what the rest needs
+    let searched : (Searched c.args.size c.args.starts.now c.args.rows.now c.args.edited.0
+    c.args.replacement.now lent_at c.rematch-end.result c.rematch-end.new.visited
     c.rematch-end.new.cheap c.rematch-end.new.scol
     c.rematch-end.new.sat c.rematch-end.new.row2col) = record {
       given = c.requires.given;
@@ -135,10 +118,13 @@ clear-requires-3 c =
 
 pub block_matched-count-requires : goal.block_matched-count-requires
 block_matched-count-requires c =
-    let searched : (Searched c.args.size c.args.starts.now c.args.rows.now c.args.edited.0
-    c.args.replacement.now (lent (work c.args.visited.now c.args.cheap.now c.args.finished.now c.args.col2row.now
+    -- what is lent
+    let lent_at : Lent = lent (work c.args.visited.now c.args.cheap.now c.args.finished.now c.args.col2row.now
     c.args.backstarts.now c.args.backrows.now c.args.scol.now c.args.sat.now)
-    (outputs c.args.row2col.now c.args.hall.now c.args.blockcols.now c.args.blockstarts.now)) c.rematch-end.result c.rematch-end.new.visited
+    (outputs c.args.row2col.now c.args.hall.now c.args.blockcols.now c.args.blockstarts.now) in
+    -- it leaves what the rest needs
+    let searched : (Searched c.args.size c.args.starts.now c.args.rows.now c.args.edited.0
+    c.args.replacement.now lent_at c.rematch-end.result c.rematch-end.new.visited
     c.rematch-end.new.cheap c.rematch-end.new.scol
     c.rematch-end.new.sat c.rematch-end.new.row2col) = record {
       given = c.requires.given;
@@ -169,154 +155,15 @@ block_matched-count-requires c =
       );
     }
 
-pub shape_of-visited : goal.shape_of-visited
-shape_of-visited c =
-    let searched : (Searched c.args.size c.args.starts.now c.args.rows.now c.args.edited.0
-    c.args.replacement.now (lent (work c.args.visited.now c.args.cheap.now c.args.finished.now c.args.col2row.now
-    c.args.backstarts.now c.args.backrows.now c.args.scol.now c.args.sat.now)
-    (outputs c.args.row2col.now c.args.hall.now c.args.blockcols.now c.args.blockstarts.now)) c.rematch-end.result c.rematch-end.new.visited
-    c.rematch-end.new.cheap c.rematch-end.new.scol
-    c.rematch-end.new.sat c.rematch-end.new.row2col) = record {
-      given = c.requires.given;
-      ends = c.rematch-end.ensures.ends_at;
-      kept = c.rematch-end.ensures.row2col_unchanged;
-      matching = c.rematch-end.ensures.same_beyond;
-      visited = cleared_beyond c.args.size c.args.visited.now _ _ c.clear.ensures
-          c.rematch-end.ensures.work_beyond.0;
-      cheap = cleared_beyond c.args.size c.args.cheap.now _ _ c.clear-2.ensures
-          c.rematch-end.ensures.work_beyond.1;
-      cols = c.rematch-end.ensures.work_beyond.2;
-      places = c.rematch-end.ensures.work_beyond.3;
-      matching_length = c.rematch-end.auto.row2col;
-      visited_length = omega (arith, c.rematch-end.auto.visited, c.clear.auto.s);
-      cheap_length = omega (arith, c.rematch-end.auto.cheap, c.clear-2.auto.s);
-      cols_length = c.rematch-end.auto.scol;
-      places_length = c.rematch-end.auto.sat;
-    } in
-    omega (arith, c.block_matched-count.auto.visited, searched.visited_length)
-
-pub shape_of-cheap : goal.shape_of-cheap
-shape_of-cheap c =
-    let searched : (Searched c.args.size c.args.starts.now c.args.rows.now c.args.edited.0
-    c.args.replacement.now (lent (work c.args.visited.now c.args.cheap.now c.args.finished.now c.args.col2row.now
-    c.args.backstarts.now c.args.backrows.now c.args.scol.now c.args.sat.now)
-    (outputs c.args.row2col.now c.args.hall.now c.args.blockcols.now c.args.blockstarts.now)) c.rematch-end.result c.rematch-end.new.visited
-    c.rematch-end.new.cheap c.rematch-end.new.scol
-    c.rematch-end.new.sat c.rematch-end.new.row2col) = record {
-      given = c.requires.given;
-      ends = c.rematch-end.ensures.ends_at;
-      kept = c.rematch-end.ensures.row2col_unchanged;
-      matching = c.rematch-end.ensures.same_beyond;
-      visited = cleared_beyond c.args.size c.args.visited.now _ _ c.clear.ensures
-          c.rematch-end.ensures.work_beyond.0;
-      cheap = cleared_beyond c.args.size c.args.cheap.now _ _ c.clear-2.ensures
-          c.rematch-end.ensures.work_beyond.1;
-      cols = c.rematch-end.ensures.work_beyond.2;
-      places = c.rematch-end.ensures.work_beyond.3;
-      matching_length = c.rematch-end.auto.row2col;
-      visited_length = omega (arith, c.rematch-end.auto.visited, c.clear.auto.s);
-      cheap_length = omega (arith, c.rematch-end.auto.cheap, c.clear-2.auto.s);
-      cols_length = c.rematch-end.auto.scol;
-      places_length = c.rematch-end.auto.sat;
-    } in
-    omega (arith, c.block_matched-count.auto.cheap, searched.cheap_length)
-
-pub shape_of-scol : goal.shape_of-scol
-shape_of-scol c =
-    let searched : (Searched c.args.size c.args.starts.now c.args.rows.now c.args.edited.0
-    c.args.replacement.now (lent (work c.args.visited.now c.args.cheap.now c.args.finished.now c.args.col2row.now
-    c.args.backstarts.now c.args.backrows.now c.args.scol.now c.args.sat.now)
-    (outputs c.args.row2col.now c.args.hall.now c.args.blockcols.now c.args.blockstarts.now)) c.rematch-end.result c.rematch-end.new.visited
-    c.rematch-end.new.cheap c.rematch-end.new.scol
-    c.rematch-end.new.sat c.rematch-end.new.row2col) = record {
-      given = c.requires.given;
-      ends = c.rematch-end.ensures.ends_at;
-      kept = c.rematch-end.ensures.row2col_unchanged;
-      matching = c.rematch-end.ensures.same_beyond;
-      visited = cleared_beyond c.args.size c.args.visited.now _ _ c.clear.ensures
-          c.rematch-end.ensures.work_beyond.0;
-      cheap = cleared_beyond c.args.size c.args.cheap.now _ _ c.clear-2.ensures
-          c.rematch-end.ensures.work_beyond.1;
-      cols = c.rematch-end.ensures.work_beyond.2;
-      places = c.rematch-end.ensures.work_beyond.3;
-      matching_length = c.rematch-end.auto.row2col;
-      visited_length = omega (arith, c.rematch-end.auto.visited, c.clear.auto.s);
-      cheap_length = omega (arith, c.rematch-end.auto.cheap, c.clear-2.auto.s);
-      cols_length = c.rematch-end.auto.scol;
-      places_length = c.rematch-end.auto.sat;
-    } in
-    omega (
-      arith,
-      c.block_matched-count.auto.scol,
-      searched.cols_length,
-    )
-
-pub shape_of-sat : goal.shape_of-sat
-shape_of-sat c =
-    let searched : (Searched c.args.size c.args.starts.now c.args.rows.now c.args.edited.0
-    c.args.replacement.now (lent (work c.args.visited.now c.args.cheap.now c.args.finished.now c.args.col2row.now
-    c.args.backstarts.now c.args.backrows.now c.args.scol.now c.args.sat.now)
-    (outputs c.args.row2col.now c.args.hall.now c.args.blockcols.now c.args.blockstarts.now)) c.rematch-end.result c.rematch-end.new.visited
-    c.rematch-end.new.cheap c.rematch-end.new.scol
-    c.rematch-end.new.sat c.rematch-end.new.row2col) = record {
-      given = c.requires.given;
-      ends = c.rematch-end.ensures.ends_at;
-      kept = c.rematch-end.ensures.row2col_unchanged;
-      matching = c.rematch-end.ensures.same_beyond;
-      visited = cleared_beyond c.args.size c.args.visited.now _ _ c.clear.ensures
-          c.rematch-end.ensures.work_beyond.0;
-      cheap = cleared_beyond c.args.size c.args.cheap.now _ _ c.clear-2.ensures
-          c.rematch-end.ensures.work_beyond.1;
-      cols = c.rematch-end.ensures.work_beyond.2;
-      places = c.rematch-end.ensures.work_beyond.3;
-      matching_length = c.rematch-end.auto.row2col;
-      visited_length = omega (arith, c.rematch-end.auto.visited, c.clear.auto.s);
-      cheap_length = omega (arith, c.rematch-end.auto.cheap, c.clear-2.auto.s);
-      cols_length = c.rematch-end.auto.scol;
-      places_length = c.rematch-end.auto.sat;
-    } in
-    omega (
-      arith,
-      c.block_matched-count.auto.sat,
-      searched.places_length,
-    )
-
-pub shape_of-row2col : goal.shape_of-row2col
-shape_of-row2col c =
-    let searched : (Searched c.args.size c.args.starts.now c.args.rows.now c.args.edited.0
-    c.args.replacement.now (lent (work c.args.visited.now c.args.cheap.now c.args.finished.now c.args.col2row.now
-    c.args.backstarts.now c.args.backrows.now c.args.scol.now c.args.sat.now)
-    (outputs c.args.row2col.now c.args.hall.now c.args.blockcols.now c.args.blockstarts.now)) c.rematch-end.result c.rematch-end.new.visited
-    c.rematch-end.new.cheap c.rematch-end.new.scol
-    c.rematch-end.new.sat c.rematch-end.new.row2col) = record {
-      given = c.requires.given;
-      ends = c.rematch-end.ensures.ends_at;
-      kept = c.rematch-end.ensures.row2col_unchanged;
-      matching = c.rematch-end.ensures.same_beyond;
-      visited = cleared_beyond c.args.size c.args.visited.now _ _ c.clear.ensures
-          c.rematch-end.ensures.work_beyond.0;
-      cheap = cleared_beyond c.args.size c.args.cheap.now _ _ c.clear-2.ensures
-          c.rematch-end.ensures.work_beyond.1;
-      cols = c.rematch-end.ensures.work_beyond.2;
-      places = c.rematch-end.ensures.work_beyond.3;
-      matching_length = c.rematch-end.auto.row2col;
-      visited_length = omega (arith, c.rematch-end.auto.visited, c.clear.auto.s);
-      cheap_length = omega (arith, c.rematch-end.auto.cheap, c.clear-2.auto.s);
-      cols_length = c.rematch-end.auto.scol;
-      places_length = c.rematch-end.auto.sat;
-    } in
-    searched.matching_length
-
-pub shape_of-hall : goal.shape_of-hall
-shape_of-hall c =
-    c.clear-3.auto.s
-
 pub returns : goal.returns
 returns c =
-    let searched : (Searched c.args.size c.args.starts.now c.args.rows.now c.args.edited.0
-    c.args.replacement.now (lent (work c.args.visited.now c.args.cheap.now c.args.finished.now c.args.col2row.now
+    -- what is lent
+    let lent_at : Lent = lent (work c.args.visited.now c.args.cheap.now c.args.finished.now c.args.col2row.now
     c.args.backstarts.now c.args.backrows.now c.args.scol.now c.args.sat.now)
-    (outputs c.args.row2col.now c.args.hall.now c.args.blockcols.now c.args.blockstarts.now)) c.rematch-end.result c.rematch-end.new.visited
+    (outputs c.args.row2col.now c.args.hall.now c.args.blockcols.now c.args.blockstarts.now) in
+    -- it leaves what the rest needs
+    let searched : (Searched c.args.size c.args.starts.now c.args.rows.now c.args.edited.0
+    c.args.replacement.now lent_at c.rematch-end.result c.rematch-end.new.visited
     c.rematch-end.new.cheap c.rematch-end.new.scol
     c.rematch-end.new.sat c.rematch-end.new.row2col) = record {
       given = c.requires.given;

@@ -19,6 +19,7 @@ search-requires c = record {
 
 pub returns-then-not-search : goal.returns-then-not-search
 returns-then-not-search c =
+    -- what the search of this turn leaves
     let made : Made c.args.size (column_or c.args.starts.now c.args.rows.now
     none [])
     c.loop-c.c c.loop-c.visited c.loop-c.cheap c.loop-c.scol c.loop-c.sat c.loop-c.row2col c.search.new.visited c.search.new.cheap c.search.new.scol c.search.new.sat c.search.new.row2col c.search.result = record {
@@ -40,6 +41,7 @@ returns-then-not-search c =
 
 pub loop-c-preserved : goal.loop-c-preserved
 loop-c-preserved c =
+    -- what the search of this turn leaves
     let made : Made c.args.size (column_or c.args.starts.now c.args.rows.now
     none [])
     c.loop-c.c c.loop-c.visited c.loop-c.cheap c.loop-c.scol c.loop-c.sat c.loop-c.row2col c.search.new.visited c.search.new.cheap c.search.new.scol c.search.new.sat c.search.new.row2col c.search.result = record {

@@ -29,18 +29,20 @@ falls_into-requires c =
 
 pub overflow_add-falls : goal.overflow_add-falls
 overflow_add-falls c =
+    -- the count with column c
+    let counted : (let args = c.args in
+    c.loop-c.falls + c.flag-falls.result ≡ count (enters_falling args.starts.now args.rows.now) (c.loop-c.c + 1)) = let args = c.args in
+    rw (
+      c.flag-falls.ensures,
+      c.falls_into.ensures,
+      c.get.ensures,
+      c.get-in-loop-c.ensures,
+      c.loop-c.invariant.1,
+    )
+    (sym (count_next (enters_falling args.starts.now args.rows.now) c.loop-c.c)) in
     omega (
       arith,
-      (let it : (let args = c.args in
-          c.loop-c.falls + c.flag-falls.result ≡ count (enters_falling args.starts.now args.rows.now) (c.loop-c.c + 1)) = let args = c.args in
-          rw (
-            c.flag-falls.ensures,
-            c.falls_into.ensures,
-            c.get.ensures,
-            c.get-in-loop-c.ensures,
-            c.loop-c.invariant.1,
-          )
-          (sym (count_next (enters_falling args.starts.now args.rows.now) c.loop-c.c)) in it),
+      counted,
       c.requires.small,
       count_few (enters_falling c.args.starts.now c.args.rows.now) (c.loop-c.c + 1),
     )
@@ -50,19 +52,19 @@ overflow_add-c-in-loop-c c =
     omega (arith, c.requires.small)
 
 pub loop-c-preserved : goal.loop-c-preserved
-loop-c-preserved c = (
-  omega arith,
-  (let it : (let args = c.args in
-      c.loop-c.falls + c.flag-falls.result ≡ count (enters_falling args.starts.now args.rows.now) (c.loop-c.c + 1)) = let args = c.args in
-      rw (
-        c.flag-falls.ensures,
-        c.falls_into.ensures,
-        c.get.ensures,
-        c.get-in-loop-c.ensures,
-        c.loop-c.invariant.1,
-      )
-      (sym (count_next (enters_falling args.starts.now args.rows.now) c.loop-c.c)) in it),
-)
+loop-c-preserved c =
+    -- the count with column c
+    let counted : (let args = c.args in
+    c.loop-c.falls + c.flag-falls.result ≡ count (enters_falling args.starts.now args.rows.now) (c.loop-c.c + 1)) = let args = c.args in
+    rw (
+      c.flag-falls.ensures,
+      c.falls_into.ensures,
+      c.get.ensures,
+      c.get-in-loop-c.ensures,
+      c.loop-c.invariant.1,
+    )
+    (sym (count_next (enters_falling args.starts.now args.rows.now) c.loop-c.c)) in
+    (omega arith, counted)
 
 pub returns : goal.returns
 returns c =

@@ -27,20 +27,17 @@ get-hi-requires c =
 
 pub tally-again-requires : goal.tally-again-requires
 tally-again-requires c =
+    -- the column lies within the rows
+    let within : (c.get-lo.result ≤ c.get-hi.result)
+    × (c.get-hi.result ≤ length c.args.rows.now) = let shaped = c.requires.shaped.0 in
+    let i = c.loop-c.c in (
+      omega (arith, c.get-lo.ensures, c.get-hi.ensures, shaped.rising i (omega arith)),
+      omega (arith, c.get-hi.ensures, column_end shaped i (omega arith)),
+    ) in
     let below = c.requires.shaped.1 in record {
       lo_le_hi = (
-        ((let it : (c.get-lo.result ≤ c.get-hi.result)
-            × (c.get-hi.result ≤ length c.args.rows.now) = let shaped = c.requires.shaped.0 in
-            let i = c.loop-c.c in (
-              omega (arith, c.get-lo.ensures, c.get-hi.ensures, shaped.rising i (omega arith)),
-              omega (arith, c.get-hi.ensures, column_end shaped i (omega arith)),
-            ) in it)).0,
-        ((let it : (c.get-lo.result ≤ c.get-hi.result)
-            × (c.get-hi.result ≤ length c.args.rows.now) = let shaped = c.requires.shaped.0 in
-            let i = c.loop-c.c in (
-              omega (arith, c.get-lo.ensures, c.get-hi.ensures, shaped.rising i (omega arith)),
-              omega (arith, c.get-hi.ensures, column_end shaped i (omega arith)),
-            ) in it)).1,
+        within.0,
+        within.1,
         λ k l. omega (arith, below k l, c.requires.size_in_bounds.0, ap length c.loop-c.invariant.1),
       );
       unmarked = λ k l. rw c.loop-c.invariant.1 (c.requires.size_in_bounds.1 _ (below k l));
@@ -48,48 +45,42 @@ tally-again-requires c =
 
 pub overflow_add-again : goal.overflow_add-again
 overflow_add-again c =
+    -- the count with that of column c
+    let counted : (let args = c.args in
+    Counted args.size args.starts.now args.rows.now (get_or args.starts.now (c.loop-c.c + 1) 0)
+    (c.loop-c.again + c.tally-again.result)) = count_more c.requires.shaped.0 c.loop-c.c _ _ (omega arith) c.loop-c.invariant.2
+    (rw (c.get-lo.ensures, c.get-hi.ensures) at c.tally-again.ensures.tallied) in
     let shaped = c.requires.shaped.0 in
-    omega (
-      arith,
-      ((let it : (let args = c.args in
-          Counted args.size args.starts.now args.rows.now (get_or args.starts.now (c.loop-c.c + 1) 0)
-          (c.loop-c.again + c.tally-again.result)) = count_more c.requires.shaped.0 c.loop-c.c _ _ (omega arith) c.loop-c.invariant.2
-          (rw (c.get-lo.ensures, c.get-hi.ensures) at c.tally-again.ensures.tallied) in it)).few,
-      column_end shaped c.loop-c.c (omega arith),
-      shaped.few,
-    )
+    omega (arith, counted.few, column_end shaped c.loop-c.c (omega arith), shaped.few)
 
 pub unmark-requires : goal.unmark-requires
-unmark-requires c = (
-  omega (
-    arith,
-    ((let it : (c.get-lo.result ≤ c.get-hi.result)
-        × (c.get-hi.result ≤ length c.args.rows.now) = let shaped = c.requires.shaped.0 in
-        let i = c.loop-c.c in (
-          omega (arith, c.get-lo.ensures, c.get-hi.ensures, shaped.rising i (omega arith)),
-          omega (arith, c.get-hi.ensures, column_end shaped i (omega arith)),
-        ) in it)).0,
-  ),
-  omega (
-    arith,
-    ((let it : (c.get-lo.result ≤ c.get-hi.result)
-        × (c.get-hi.result ≤ length c.args.rows.now) = let shaped = c.requires.shaped.0 in
-        let i = c.loop-c.c in (
-          omega (arith, c.get-lo.ensures, c.get-hi.ensures, shaped.rising i (omega arith)),
-          omega (arith, c.get-hi.ensures, column_end shaped i (omega arith)),
-        ) in it)).0,
-    ((let it : (c.get-lo.result ≤ c.get-hi.result)
-        × (c.get-hi.result ≤ length c.args.rows.now) = let shaped = c.requires.shaped.0 in
-        let i = c.loop-c.c in (
-          omega (arith, c.get-lo.ensures, c.get-hi.ensures, shaped.rising i (omega arith)),
-          omega (arith, c.get-hi.ensures, column_end shaped i (omega arith)),
-        ) in it)).1,
-  ),
-  λ k l. omega (arith, c.requires.shaped.1 k l, c.requires.size_in_bounds.0, ap length c.loop-c.invariant.1),
-)
+unmark-requires c =
+    -- the column lies within the rows
+    let within : (c.get-lo.result ≤ c.get-hi.result)
+    × (c.get-hi.result ≤ length c.args.rows.now) = let shaped = c.requires.shaped.0 in
+    let i = c.loop-c.c in (
+      omega (arith, c.get-lo.ensures, c.get-hi.ensures, shaped.rising i (omega arith)),
+      omega (arith, c.get-hi.ensures, column_end shaped i (omega arith)),
+    ) in (
+      omega (arith, within.0),
+      omega (arith, within.0, within.1),
+      λ k l. omega (arith, c.requires.shaped.1 k l, c.requires.size_in_bounds.0, ap length c.loop-c.invariant.1),
+    )
 
 pub loop-c-preserved : goal.loop-c-preserved
 loop-c-preserved c =
+    -- the column lies within the rows
+    let within : (c.get-lo.result ≤ c.get-hi.result)
+    × (c.get-hi.result ≤ length c.args.rows.now) = let shaped = c.requires.shaped.0 in
+    let i = c.loop-c.c in (
+      omega (arith, c.get-lo.ensures, c.get-hi.ensures, shaped.rising i (omega arith)),
+      omega (arith, c.get-hi.ensures, column_end shaped i (omega arith)),
+    ) in
+    -- the count with that of column c
+    let counted : (let args = c.args in
+    Counted args.size args.starts.now args.rows.now (get_or args.starts.now (c.loop-c.c + 1) 0)
+    (c.loop-c.again + c.tally-again.result)) = count_more c.requires.shaped.0 c.loop-c.c _ _ (omega arith) c.loop-c.invariant.2
+    (rw (c.get-lo.ensures, c.get-hi.ensures) at c.tally-again.ensures.tallied) in
     let rows = c.args.rows.now in
     let lo = c.get-lo.result in
     let many = c.get-hi.result - lo in
@@ -97,19 +88,8 @@ loop-c-preserved c =
       omega arith,
       c.unmark.ensures ∙ ap (marked rows 0 lo many) c.tally-again.ensures.marks_after
           ∙ unmark_mark rows lo many c.loop-c.marks
-          (λ j a b. rw same (c.requires.size_in_bounds.1 _ (c.requires.shaped.1 j (omega (
-            arith,
-            ((let it : (c.get-lo.result ≤ c.get-hi.result)
-                × (c.get-hi.result ≤ length c.args.rows.now) = let shaped = c.requires.shaped.0 in
-                let i = c.loop-c.c in (
-                  omega (arith, c.get-lo.ensures, c.get-hi.ensures, shaped.rising i (omega arith)),
-                  omega (arith, c.get-hi.ensures, column_end shaped i (omega arith)),
-                ) in it)).1,
-          ))))) ∙ same,
-      (let it : (let args = c.args in
-          Counted args.size args.starts.now args.rows.now (get_or args.starts.now (c.loop-c.c + 1) 0)
-          (c.loop-c.again + c.tally-again.result)) = count_more c.requires.shaped.0 c.loop-c.c _ _ (omega arith) c.loop-c.invariant.2
-          (rw (c.get-lo.ensures, c.get-hi.ensures) at c.tally-again.ensures.tallied) in it),
+          (λ j a b. rw same (c.requires.size_in_bounds.1 _ (c.requires.shaped.1 j (omega (arith, within.1))))) ∙ same,
+      counted,
     )
 
 pub returns : goal.returns

@@ -12,23 +12,21 @@ loop-k-init c =
 
 pub overflow_add-falls : goal.overflow_add-falls
 overflow_add-falls c =
-    omega (
-      arith,
-      (let it : (let args = c.args in
-          c.loop-k.falls + c.flag-falls.result ≡ count (row_falls_at args.rows.now) (c.loop-k.k + 1)) = let args = c.args in
-          rw (c.flag-falls.ensures, c.get.ensures, c.get-in-loop-k.ensures, c.loop-k.invariant.1)
-          (sym (count_next (row_falls_at args.rows.now) c.loop-k.k)) in it),
-      count_few (row_falls_at c.args.rows.now) (c.loop-k.k + 1),
-    )
+    -- the count with place k
+    let counted : (let args = c.args in
+    c.loop-k.falls + c.flag-falls.result ≡ count (row_falls_at args.rows.now) (c.loop-k.k + 1)) = let args = c.args in
+    rw (c.flag-falls.ensures, c.get.ensures, c.get-in-loop-k.ensures, c.loop-k.invariant.1)
+    (sym (count_next (row_falls_at args.rows.now) c.loop-k.k)) in
+    omega (arith, counted, count_few (row_falls_at c.args.rows.now) (c.loop-k.k + 1))
 
 pub loop-k-preserved : goal.loop-k-preserved
-loop-k-preserved c = (
-  omega arith,
-  (let it : (let args = c.args in
-      c.loop-k.falls + c.flag-falls.result ≡ count (row_falls_at args.rows.now) (c.loop-k.k + 1)) = let args = c.args in
-      rw (c.flag-falls.ensures, c.get.ensures, c.get-in-loop-k.ensures, c.loop-k.invariant.1)
-      (sym (count_next (row_falls_at args.rows.now) c.loop-k.k)) in it),
-)
+loop-k-preserved c =
+    -- the count with place k
+    let counted : (let args = c.args in
+    c.loop-k.falls + c.flag-falls.result ≡ count (row_falls_at args.rows.now) (c.loop-k.k + 1)) = let args = c.args in
+    rw (c.flag-falls.ensures, c.get.ensures, c.get-in-loop-k.ensures, c.loop-k.invariant.1)
+    (sym (count_next (row_falls_at args.rows.now) c.loop-k.k)) in
+    (omega arith, counted)
 
 pub returns : goal.returns
 returns c =

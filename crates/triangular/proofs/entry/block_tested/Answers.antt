@@ -6,7 +6,7 @@ use Rattle.sparse.specs.Refusals.{repeated_row}
 use Rattle.sparse.specs.declared.Checked.TheVariants as checked
 use Rattle.sparse.proofs.Matrix.{column_once}
 use Rattle.sparse.proofs.Buffers.{zero_below}
-use Rattle.triangular.specs.Outcome.{work, outputs}
+use Rattle.triangular.specs.Outcome.{Work, Outputs, work, outputs}
 use Rattle.triangular.proofs.Outcome.{repeat_formed, verdict_formed}
 use Rattle.triangular.proofs.Valid.{cleared_first}
 use Rattle.triangular.proofs.entry.block_tested.Goals as goal
@@ -26,12 +26,15 @@ check_repeats-repeats-requires c = record {
 }
 
 pub returns-in-Refused : goal.returns-in-Refused
-returns-in-Refused c = record {
-  blockstarts_after = λ w. repeat_formed c.args.size c.args.starts.now c.args.rows.now w (outputs c.args.row2col.now c.args.hall.now c.args.blockcols.now c.args.blockstarts.now)
-      _ (sym c.check_repeats-repeats.ensures.value ∙ c.in-Refused.is);
-  sat_unchanged = cleared_first c.args.size (length c.args.rows.now) (work c.args.visited.now c.args.cheap.now c.args.finished.now c.args.col2row.now c.args.backstarts.now
-      c.args.backrows.now c.args.scol.now c.args.sat.now) _ _ c.clear.ensures c.check_repeats-repeats.ensures.marks_unchanged;
-}
+returns-in-Refused c =
+    let outputs_at : Outputs = outputs c.args.row2col.now c.args.hall.now c.args.blockcols.now c.args.blockstarts.now in
+    -- the workspace and the outputs that are lent
+    let work_at : Work = work c.args.visited.now c.args.cheap.now c.args.finished.now c.args.col2row.now c.args.backstarts.now
+    c.args.backrows.now c.args.scol.now c.args.sat.now in record {
+      blockstarts_after = λ w. repeat_formed c.args.size c.args.starts.now c.args.rows.now w outputs_at
+          _ (sym c.check_repeats-repeats.ensures.value ∙ c.in-Refused.is);
+      sat_unchanged = cleared_first c.args.size (length c.args.rows.now) work_at _ _ c.clear.ensures c.check_repeats-repeats.ensures.marks_unchanged;
+    }
 
 pub block_valid-requires : goal.block_valid-requires
 block_valid-requires c =
@@ -52,22 +55,16 @@ block_valid-requires c =
           c.args.size c.args.visited.now (omega arith));
     }
 
-pub shape_of-visited : goal.shape_of-visited
-shape_of-visited c =
-    omega (
-      arith,
-      c.clear.auto,
-      c.check_repeats-repeats.auto,
-      c.block_valid.auto,
-    )
-
 pub returns : goal.returns
 returns c =
+    let outputs_at : Outputs = outputs c.args.row2col.now c.args.hall.now c.args.blockcols.now c.args.blockstarts.now in
     let once : repeated_row c.args.size
-    c.args.starts.now c.args.rows.now ≡ checked.Passed = sym c.check_repeats-repeats.ensures.value ∙ c.in_default.is in record {
+    c.args.starts.now c.args.rows.now ≡ checked.Passed = sym c.check_repeats-repeats.ensures.value ∙ c.in_default.is in
+    -- the workspace and the outputs that are lent
+    let work_at : Work = work c.args.visited.now c.args.cheap.now c.args.finished.now c.args.col2row.now c.args.backstarts.now
+    c.args.backrows.now c.args.scol.now c.args.sat.now in record {
       blockstarts_after = λ w. c.block_valid.ensures.blockstarts_after w ∙ verdict_formed c.args.size c.args.starts.now
-          c.args.rows.now w (outputs c.args.row2col.now c.args.hall.now c.args.blockcols.now c.args.blockstarts.now) once;
+          c.args.rows.now w outputs_at once;
       sat_unchanged = c.block_valid.ensures.sat_unchanged
-          ∙ cleared_first c.args.size (length c.args.rows.now) (work c.args.visited.now c.args.cheap.now c.args.finished.now c.args.col2row.now c.args.backstarts.now
-          c.args.backrows.now c.args.scol.now c.args.sat.now) _ _ c.clear.ensures c.check_repeats-repeats.ensures.marks_unchanged;
+          ∙ cleared_first c.args.size (length c.args.rows.now) work_at _ _ c.clear.ensures c.check_repeats-repeats.ensures.marks_unchanged;
     }
