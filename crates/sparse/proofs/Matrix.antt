@@ -21,31 +21,31 @@ use Rattle.graph.proofs.Counting.{some_false}
 use Rattle.graph.proofs.Lists.{mem_get_or, once_left}
 use Rattle.sparse.specs.Limits.{max_size, max_entries}
 use Rattle.sparse.specs.Matrix.{column, width, Shaped, RowsBelow}
-use Rattle.sparse.specs.Refusals.{too_large, misshapen, row_outside, repeated_row, empty_column, falls_at, outside_at, repeats_at, empty_at}
-use Rattle.sparse.specs.declared.Checked.TheVariants.{Passed}
+use Rattle.sparse.specs.declared.refusal.Refusal.TheVariants.{TooLarge, Misshapen, RowOutside, RepeatedRow, EmptyColumn}
+use Rattle.sparse.specs.Refusals.{passed, as_column, too_large, misshapen, row_outside, repeated_row, empty_column, falls_at, outside_at, repeats_at, empty_at}
 use Rattle.sparse.proofs.Refusals.{if_passed, at_passed}
 use Rattle.sparse.proofs.Repeats.{is_repeat}
 
 -- ---- refusals 1, 2 and 3
 
 -- not too large: the size is within its limit
-pub size_small : (size : ℕ) (rows : List ℕ) → too_large size rows ≡ Passed → size ≤ max_size
+pub size_small : (size : ℕ) (rows : List ℕ) → too_large size rows ≡ passed → size ≤ max_size
 unfolding too_large
-size_small size rows e = ltb-false _ _ (or_left (ltb max_size size) (ltb max_entries (length rows)) (if_passed 1 _ e))
+size_small size rows e = ltb-false _ _ (or_left (ltb max_size size) (ltb max_entries (length rows)) (if_passed TooLarge _ e))
 
 -- not too large: so is the number of entries
-pub entries_few : (size : ℕ) (rows : List ℕ) → too_large size rows ≡ Passed → length rows ≤ max_entries
+pub entries_few : (size : ℕ) (rows : List ℕ) → too_large size rows ≡ passed → length rows ≤ max_entries
 unfolding too_large
-entries_few size rows e = ltb-false _ _ (or_right (ltb max_size size) (ltb max_entries (length rows)) (if_passed 1 _ e))
+entries_few size rows e = ltb-false _ _ (or_right (ltb max_size size) (ltb max_entries (length rows)) (if_passed TooLarge _ e))
 
 -- not too large and not misshapen: the matrix is shaped
-pub shaped : (size : ℕ) (starts rows : List ℕ) → too_large size rows ≡ Passed → misshapen size starts rows ≡ Passed
+pub shaped : (size : ℕ) (starts rows : List ℕ) → too_large size rows ≡ passed → misshapen size starts rows ≡ passed
     → Shaped size starts rows
 unfolding misshapen
 shaped size starts rows e f =
     let len = not (eqb (length starts) (size + 1)) in
     let zer = not (eqb (get_or starts 0 0) 0) in
-    let b = if_passed 2 _ f in
+    let b = if_passed Misshapen _ f in
     let b1 = or_left (len || zer || some (falls_at starts) size) _ b in
     let b2 = or_left (len || zer) _ b1 in
     record {
@@ -58,9 +58,9 @@ shaped size starts rows e f =
     }
 
 -- no row outside: every row is below n
-pub rows_below : (size : ℕ) (rows : List ℕ) → row_outside size rows ≡ Passed → RowsBelow rows size
+pub rows_below : (size : ℕ) (rows : List ℕ) → row_outside size rows ≡ passed → RowsBelow rows size
 unfolding row_outside
-rows_below size rows e k l = leb-false _ _ (at_passed 3 (outside_at size rows) (length rows) e k l)
+rows_below size rows e k l = leb-false _ _ (at_passed RowOutside (outside_at size rows) (length rows) e k l)
 
 -- ---- the columns of a shaped matrix
 
@@ -78,6 +78,16 @@ mono {starts = starts} s a (suc b) l h = go (λ k. mono s a b (le_of_suc-le-suc 
 pub column_end : {size : ℕ} {starts rows : List ℕ} → Shaped size starts rows → (c : Col) → c < size
     → get_or starts (c + 1) 0 ≤ length rows
 column_end {size = size} s c l = omega (arith, s.to_end, mono s (c + 1) size (omega arith) (omega arith))
+
+-- a column lies within the rows, and its rows have their marks
+pub column_within : {size room : ℕ} {starts rows : List ℕ} (c lo hi : ℕ) → Shaped size starts rows → RowsBelow rows size → size ≤ room
+    → c < size → lo ≡ get_or starts c 0 → hi ≡ get_or starts (c + 1) 0
+    → (lo ≤ hi) × (hi ≤ length rows) × RowsBelow rows room
+column_within c lo hi s b m l e f = (
+  omega (arith, s.rising c l),
+  omega (arith, column_end s c l),
+  λ k h. omega (arith, b k h),
+)
 
 -- a column has as many rows as its starts are apart
 pub column_length : {size : ℕ} {starts rows : List ℕ} → Shaped size starts rows → (c : Col) → c < size
@@ -126,10 +136,10 @@ inside {size = size} {starts = starts} {rows = rows} s b = record { row_below = 
 -- ---- refusals 8 and 4
 
 -- no column is empty: each has a row
-pub some_row : (size : ℕ) (starts : List ℕ) → empty_column size starts ≡ Passed → (c : Col) → c < size → 0 < width starts c
+pub some_row : (size : ℕ) (starts : List ℕ) → empty_column size starts ≡ passed → (c : Col) → c < size → 0 < width starts c
 unfolding empty_column
 some_row size starts e c l =
-    omega (arith, leb-false (get_or starts (c + 1) 0) (get_or starts c 0) (at_passed 8 (empty_at starts) size e c l))
+    omega (arith, leb-false (get_or starts (c + 1) 0) (get_or starts c 0) (at_passed (λ c. EmptyColumn (as_column c)) (empty_at starts) size e c l))
 
 -- a list whose places hold different numbers has no repeat
 places_once : (l : List ℕ) → ((i j : ℕ) → i < j → j < length l → get_or l i 0 ≡ get_or l j 0 → ⊥) → Once l
@@ -140,7 +150,7 @@ places_once (x ∷ xs) h = (places_once xs (λ i j l m. h (suc i) (suc j) (omega
     new m = let t = mem_get_or xs x m in h 0 (suc t.0) (omega arith) (omega (arith, t.1)) (sym t.2)
 
 -- no row is repeated: no column has a row twice
-pub column_once : {size : ℕ} {starts rows : List ℕ} → Shaped size starts rows → repeated_row size starts rows ≡ Passed → (c : Col)
+pub column_once : {size : ℕ} {starts rows : List ℕ} → Shaped size starts rows → repeated_row size starts rows ≡ passed → (c : Col)
     → Once (column starts rows c)
 unfolding repeated_row
 column_once {size = size} {starts = starts} {rows = rows} s e c = go (dec_lt c size)
@@ -157,14 +167,14 @@ column_once {size = size} {starts = starts} {rows = rows} s e c = go (dec_lt c s
         apart (repeats_at size starts rows (lo + j))
         (is_repeat size starts rows (lo + j)
         (record { place = lo + i; col = c; earlier = omega arith; same = same; below = l; from = omega arith; to = omega arith }))
-        (at_passed 4 (repeats_at size starts rows) (length rows) e (lo + j) (omega (arith, column_end s c l)))
+        (at_passed RepeatedRow (repeats_at size starts rows) (length rows) e (lo + j) (omega (arith, column_end s c l)))
 
     go : Dec (c < size) → Once (column starts rows c)
     go (yes l) = places_once (column starts rows c) (clash l)
     go (no l) = rw (column_beyond s c (omega arith)) tt
 
 -- so no column has more than n rows
-pub few_rows : {size : ℕ} {starts rows : List ℕ} → Shaped size starts rows → RowsBelow rows size → repeated_row size starts rows ≡ Passed
+pub few_rows : {size : ℕ} {starts rows : List ℕ} → Shaped size starts rows → RowsBelow rows size → repeated_row size starts rows ≡ passed
     → (c : Col) → c < size → width starts c ≤ size
 few_rows {size = size} {starts = starts} {rows = rows} s b e c l =
     omega (arith, column_length s c l, once_left size (column starts rows c) (column_once s e c) ((inside s b).row_below c))

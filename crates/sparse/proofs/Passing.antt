@@ -12,19 +12,19 @@ use Rattle.graph.proofs.Concatenation.{once_places}
 use Rattle.graph.proofs.Counting.{some_none}
 use Rattle.sparse.specs.Limits.{max_size, max_entries}
 use Rattle.sparse.specs.Matrix.{Shaped, RowsBelow, column, width}
-use Rattle.sparse.specs.Refusals.{refused_if, too_large, misshapen, falls_at, Buffer, one_short, no_room, row_outside, outside_at}
+use Rattle.sparse.specs.declared.refusal.Refusal.TheVariants.{RowOutside, RepeatedRow, EmptyColumn}
+use Rattle.sparse.specs.Refusals.{passed, as_column, refused_if, too_large, misshapen, falls_at, Buffer, one_short, no_room, row_outside, outside_at}
 use Rattle.sparse.specs.Refusals.{repeated_row, repeats_at, empty_column, empty_at}
-use Rattle.sparse.specs.declared.Checked.TheVariants.{Passed}
 use Rattle.sparse.proofs.Refusals.{refused_none}
 use Rattle.sparse.proofs.Repeats.{Repeat, repeat_is}
 use Rattle.sparse.proofs.Room.{short_more}
 use Rattle.sparse.proofs.Matrix.{column_at, column_length}
 
-pub size_passes : (size : ℕ) (rows : List ℕ) → size ≤ max_size → length rows ≤ max_entries → too_large size rows ≡ Passed
+pub size_passes : (size : ℕ) (rows : List ℕ) → size ≤ max_size → length rows ≤ max_entries → too_large size rows ≡ passed
 unfolding too_large refused_if
 size_passes size rows l m = rw (le-ltb max_size size l, le-ltb max_entries (length rows) m)
 
-pub shape_passes : {size : ℕ} {starts rows : List ℕ} → Shaped size starts rows → misshapen size starts rows ≡ Passed
+pub shape_passes : {size : ℕ} {starts rows : List ℕ} → Shaped size starts rows → misshapen size starts rows ≡ passed
 unfolding misshapen refused_if
 shape_passes {size} {starts} {rows} s =
     rw (
@@ -35,24 +35,24 @@ shape_passes {size} {starts} {rows} s =
     )
 
 -- buffers that are long enough pass one after the other
-pub room_none : no_room [] ≡ Passed
+pub room_none : no_room [] ≡ passed
 unfolding no_room one_short refused_if
 room_none = refl
 
-pub room_more : (b : Buffer) (bs : List Buffer) → b.need ≤ b.len → no_room bs ≡ Passed → no_room (b ∷ bs) ≡ Passed
+pub room_more : (b : Buffer) (bs : List Buffer) → b.need ≤ b.len → no_room bs ≡ passed → no_room (b ∷ bs) ≡ passed
 unfolding no_room refused_if
 room_more b bs l e = rw (short_more b bs, le-ltb b.len b.need l) e
 
-pub rows_pass : (size : ℕ) (rows : List ℕ) → RowsBelow rows size → row_outside size rows ≡ Passed
+pub rows_pass : (size : ℕ) (rows : List ℕ) → RowsBelow rows size → row_outside size rows ≡ passed
 unfolding row_outside
-rows_pass size rows b = refused_none 3 (outside_at size rows) (length rows) (λ k l. lt-leb size (get_or rows k 0) (b k l))
+rows_pass size rows b = refused_none RowOutside (outside_at size rows) (length rows) (λ k l. lt-leb size (get_or rows k 0) (b k l))
 
 -- columns without repeats pass
 pub repeats_pass : {size : ℕ} {starts rows : List ℕ} → Shaped size starts rows → ((c : Col) → c < size → Once (column starts rows c))
-    → repeated_row size starts rows ≡ Passed
+    → repeated_row size starts rows ≡ passed
 unfolding repeated_row
 repeats_pass {size} {starts} {rows} s once =
-    refused_none 4 (repeats_at size starts rows) (length rows) (λ k l. is_false _ (λ t. clash k (repeat_is size starts rows k t)))
+    refused_none RepeatedRow (repeats_at size starts rows) (length rows) (λ k l. is_false _ (λ t. clash k (repeat_is size starts rows k t)))
   where
     -- the row at a place of a column, from the column's start
     row : (c : Col) (i : ℕ) → get_or starts c 0 ≤ i → i < get_or starts (c + 1) 0
@@ -71,7 +71,7 @@ repeats_pass {size} {starts} {rows} s once =
         ∙ sym (row c k (omega (arith, r.from, r.earlier)) r.to)) in
         omega (arith, e, r.from, r.earlier)
 
-pub columns_pass : (size : ℕ) (starts : List ℕ) → ((c : Col) → c < size → 0 < width starts c) → empty_column size starts ≡ Passed
+pub columns_pass : (size : ℕ) (starts : List ℕ) → ((c : Col) → c < size → 0 < width starts c) → empty_column size starts ≡ passed
 unfolding empty_column
 columns_pass size starts some =
-    refused_none 8 (empty_at starts) size (λ c l. lt-leb (get_or starts (c + 1) 0) (get_or starts c 0) (omega (arith, some c l)))
+    refused_none (λ c. EmptyColumn (as_column c)) (empty_at starts) size (λ c l. lt-leb (get_or starts (c + 1) 0) (get_or starts c 0) (omega (arith, some c l)))

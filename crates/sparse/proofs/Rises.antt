@@ -1,6 +1,6 @@
 -- Columns whose rows rise: where every fall from a row to the next is between two columns, no row repeats.
 use Prim.Native.Nat.{ℕ, zero, suc, ◌+◌, ◌-◌, ◌<◌, ◌≤◌}
-use mathlib.Core.Path.{◌≡◌, refl, ap, ◌∙◌}
+use mathlib.Core.Path.{◌≡◌, refl, sym, ap, ◌∙◌}
 use mathlib.Core.List.{List}
 use mathlib.Core.Bool.{Bool, true, false}
 use mathlib.Core.Logic.{◌⊎◌, inl, inr}
@@ -10,6 +10,7 @@ use native.Mathlib.Omega.{arith}
 use borrow.Author.Tests.{leb-false, lt-ltb, le-ltb}
 use lib.Dec.{leb}
 use lib.ListN.{length, get_or}
+use mir.Val.{bool_byte}
 use Rattle.graph.specs.Counting.{bit, count}
 use Rattle.graph.proofs.Bools.{is_false}
 use Rattle.graph.proofs.Counting.{below}
@@ -27,6 +28,19 @@ count_zero p = refl
 -- one turn of the loop
 pub count_next : (p : ℕ → Bool) (k : ℕ) → count p (k + 1) ≡ count p k + bit (p k)
 count_next p k = rw add-one (omega arith)
+
+-- a test as a number is the bit of it
+byte_bit : (b : Bool) → bool_byte b ≡ bit b
+byte_bit true = refl
+byte_bit false = refl
+
+pub byte_few : (b : Bool) → bool_byte b ≤ 1
+byte_few true = omega arith
+byte_few false = omega arith
+
+-- one turn of a loop that adds the test as a number
+pub count_byte : (p : ℕ → Bool) (k : ℕ) → count p k + bool_byte (p k) ≡ count p (k + 1)
+count_byte p k = rw byte_bit (sym (count_next p k))
 
 bit_few : (b : Bool) → bit b ≤ 1
 bit_few true = omega arith

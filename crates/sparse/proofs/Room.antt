@@ -6,8 +6,8 @@ use mathlib.Core.Bool.{Bool, true, false, ◌||◌}
 use borrow.Author.Tests.{ltb-false}
 use lib.Dec.{ltb}
 use Rattle.graph.proofs.Bools.{or_left, or_right}
-use Rattle.sparse.specs.Refusals.{Buffer, one_short, no_room, refused_if}
-use Rattle.sparse.specs.declared.Checked.TheVariants.{Passed}
+use Rattle.sparse.specs.declared.refusal.Refusal.TheVariants.{NoRoom}
+use Rattle.sparse.specs.Refusals.{passed, Buffer, one_short, no_room, refused_if}
 use Rattle.sparse.proofs.Refusals.{if_passed}
 
 -- the test goes through the buffers
@@ -25,11 +25,11 @@ short_last b = go (ltb b.len b.need)
     go false = refl
 
 -- where they pass, the one at the front is as long as its need
-pub room_head : (b : Buffer) (bs : List Buffer) → no_room (b ∷ bs) ≡ Passed → b.need ≤ b.len
+pub room_head : (b : Buffer) (bs : List Buffer) → no_room (b ∷ bs) ≡ passed → b.need ≤ b.len
 unfolding no_room one_short
-room_head b bs e = ltb-false _ _ (or_left (ltb b.len b.need) (one_short bs) (if_passed 5 _ e))
+room_head b bs e = ltb-false _ _ (or_left (ltb b.len b.need) (one_short bs) (if_passed NoRoom _ e))
 
 -- and the rest pass too
-pub room_tail : (b : Buffer) (bs : List Buffer) → no_room (b ∷ bs) ≡ Passed → no_room bs ≡ Passed
+pub room_tail : (b : Buffer) (bs : List Buffer) → no_room (b ∷ bs) ≡ passed → no_room bs ≡ passed
 unfolding no_room one_short refused_if
-room_tail b bs e = rw (or_right (ltb b.len b.need) (one_short bs) (if_passed 5 _ e))
+room_tail b bs e = rw (or_right (ltb b.len b.need) (one_short bs) (if_passed NoRoom _ e))

@@ -93,3 +93,9 @@ count_more {size = size} {starts = starts} {rows = rows} s c a t l old new = rec
           is_repeat size starts rows j.1
               (record { place = j.0; col = c; earlier = j.3; same = j.5; below = l; from = j.2; to = j.4 }),
         )
+
+-- the same, from what a loop reads: the row at place k, and its mark
+pub tally_read : {rows : List ℕ} {lo k s row seen : ℕ} (before marks : List ℕ) → Tallied rows lo k s → lo ≤ k
+    → marks ≡ marked rows 1 lo (k - lo) before → row ≡ get_or rows k 0 → seen ≡ get_or marks row 0
+    → get_or rows k 0 < length before → get_or before (get_or rows k 0) 0 ≡ 0 → Tallied rows lo (k + 1) (s + seen)
+tally_read before marks t l m r e b z = rw (e, r, m) (tally_more t l before b z)

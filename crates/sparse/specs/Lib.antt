@@ -3,3 +3,4 @@ pub mod Buffers
 pub mod Matrix
 pub mod Refusals
 pub mod Parts
+pub mod Columns

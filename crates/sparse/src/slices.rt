@@ -1,79 +1,83 @@
 // Reading and writing lent slices. What a slice holds, and what it goes by, leaves and enters here as its kind.
 // After inlining none of these costs anything.
-ghost use Rattle.std.specs.Prelude.{◌≡◌, ◌<◌, ◌≤◌, ◌++◌, length, get_or, set, replicate, drop};
+ghost use Rattle.std.specs.Prelude.{◌≡◌, ℕ, ◌<◌, ◌≤◌, ◌++◌, length, get_or, set, replicate, drop};
 ghost use Rattle.sparse.specs.Buffers.{zeroed};
 
-use super::{Column, OriginalRow};
+use super::{Column, NewRow, OriginalRow};
 
-pub fn get(s: &[u32], i: u32) -> u32
-    requires { i < length s.now }
-    ensures { result ≡ get_or s.now i 0 }
-{
-    s[i as usize]
+// A kind of number, as it stands inside a slice.
+pub trait Kind: Copy {
+    ghost value: { Self → ℕ };
+
+    fn of(number: u32) -> Self
+        ensures { value result ≡ number };
+
+    fn number(self) -> u32
+        ensures { result ≡ value self };
 }
 
-pub fn put(s: &mut [u32], i: u32, v: u32)
-    requires { i < length s.old }
-    ensures { s.new ≡ set s.old i v }
-{
-    s[i as usize] = v;
+// A place in a slice, or a count.
+impl Kind for u32 {
+    ghost value = { λ n. n };
+
+    fn of(number: u32) -> u32 {
+        number
+    }
+
+    fn number(self) -> u32 {
+        self
+    }
 }
 
-// The column that stands at a place.
-pub fn column_at(s: &[u32], i: u32) -> Column
-    requires { i < length s.now }
-    ensures { result.0 ≡ get_or s.now i 0 }
-{
-    Column(s[i as usize])
+impl Kind for Column {
+    ghost value = { λ c. c.0 };
+
+    fn of(number: u32) -> Column {
+        Column(number)
+    }
+
+    fn number(self) -> u32 {
+        self.0
+    }
 }
 
-pub fn put_column(s: &mut [u32], i: u32, c: Column)
-    requires { i < length s.old }
-    ensures { s.new ≡ set s.old i c.0 }
-{
-    s[i as usize] = c.0;
+impl Kind for OriginalRow {
+    ghost value = { λ r. r.0 };
+
+    fn of(number: u32) -> OriginalRow {
+        OriginalRow(number)
+    }
+
+    fn number(self) -> u32 {
+        self.0
+    }
 }
 
-// What a slice that goes by columns holds for one.
-pub fn by_column(s: &[u32], c: Column) -> u32
-    requires { c.0 < length s.now }
-    ensures { result ≡ get_or s.now c.0 0 }
-{
-    let i = c.0 as usize;
-    s[i]
+impl Kind for NewRow {
+    ghost value = { λ r. r.0 };
+
+    fn of(number: u32) -> NewRow {
+        NewRow(number)
+    }
+
+    fn number(self) -> u32 {
+        self.0
+    }
 }
 
-pub fn put_by_column(s: &mut [u32], c: Column, v: u32)
-    requires { c.0 < length s.old }
-    ensures { s.new ≡ set s.old c.0 v }
+// What a slice holds for a number of the kind that it goes by.
+pub fn get<K: Kind, V: Kind>(s: &[u32], k: K) -> V
+    requires { K.value k < length s.now }
+    ensures { V.value result ≡ get_or s.now (K.value k) 0 }
 {
-    let i = c.0 as usize;
-    s[i] = v;
+    V::of(s[k.number() as usize])
 }
 
-// The row that stands at a place.
-pub fn row_at(s: &[u32], i: u32) -> OriginalRow
-    requires { i < length s.now }
-    ensures { result.0 ≡ get_or s.now i 0 }
+pub fn put<K: Kind, V: Kind>(s: &mut [u32], k: K, v: V)
+    requires { K.value k < length s.old }
+    ensures { s.new ≡ set s.old (K.value k) (V.value v) }
 {
-    OriginalRow(s[i as usize])
-}
-
-// What a slice that goes by original rows holds for one.
-pub fn by_row(s: &[u32], r: OriginalRow) -> u32
-    requires { r.0 < length s.now }
-    ensures { result ≡ get_or s.now r.0 0 }
-{
-    let i = r.0 as usize;
-    s[i]
-}
-
-pub fn put_by_row(s: &mut [u32], r: OriginalRow, v: u32)
-    requires { r.0 < length s.old }
-    ensures { s.new ≡ set s.old r.0 v }
-{
-    let i = r.0 as usize;
-    s[i] = v;
+    s[k.number() as usize] = v.number();
 }
 
 // The first k numbers become v.
@@ -81,11 +85,7 @@ pub fn fill(s: &mut [u32], k: u32, v: u32)
     requires { k ≤ length s.old }
     ensures { s.new ≡ replicate k v ++ drop k s.old }
 {
-    let mut i = 0u32;
-    while i < k {
-        put(s, i, v);
-        i += 1;
-    }
+    s[..k as usize].fill(v);
 }
 
 // The first k numbers become zero.

@@ -1,12 +1,9 @@
 -- `any_empty` meets its contract. The invariant: found says whether some column below c is empty.
-use Prim.Native.Nat.{◌≤◌, ◌-◌}
-use mathlib.Core.Path.{◌≡◌}
+use Rattle.std.proofs.Common.{◌≡◌}
 use Rattle.graph.specs.Counting.{some}
 use Rattle.sparse.specs.Refusals.{empty_at}
 use Rattle.sparse.proofs.checks.any_empty.Given as goal
 
 abbrev pub invariant-loop-c : goal.invariant-loop-c
-invariant-loop-c l = (l.c ≤ l.size) × (l.found ≡ some (empty_at l.starts) l.c)
-
-abbrev pub decreases-loop-c : goal.decreases-loop-c
-decreases-loop-c l = l.size - l.c
+invariant-loop-c l =
+    l.found ≡ some (empty_at l.starts) l.c

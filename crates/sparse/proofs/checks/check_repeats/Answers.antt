@@ -1,39 +1,21 @@
--- `check_repeats` meets its contract: columns whose rows rise pass, and where the count finds a repeat the search has its place.
-use mathlib.Core.Path.{refl, sym, ◌∙◌}
-use native.Mathlib.Omega.{arith}
+use Rattle.std.proofs.Common.{arith, sym}
 use Rattle.graph.proofs.Counting.{some_at}
 use Rattle.sparse.specs.Refusals.{repeated_row}
+use Rattle.sparse.specs.declared.refusal.Refusal.TheVariants.{RepeatedRow}
 use Rattle.sparse.proofs.Refusals.{refused_none, some_refused}
 use Rattle.sparse.proofs.checks.check_repeats.Goals as goal
 
-pub returns-then-all_rise : goal.returns-then-all_rise
+pub returns-then-all_rise-clause-value : goal.returns-then-all_rise-clause-value
 unfolding repeated_row
-returns-then-all_rise c = record {
-  value = sym (refused_none 4 _ _ (c.all_rise.ensures c.if-all_rise.true));
-  marks_unchanged = refl;
-}
+returns-then-all_rise-clause-value c = sym (refused_none RepeatedRow _ _ (c.all_rise.ensures c.if-all_rise.true))
 
-pub returns-then-count_repeats-eq0 : goal.returns-then-count_repeats-eq0
+pub returns-then-count_repeats-eq0-clause-value : goal.returns-then-count_repeats-eq0-clause-value
 unfolding repeated_row
-returns-then-count_repeats-eq0 c =
-    let told = c.count_repeats.ensures in record {
-      value = sym (refused_none 4 _ _ (told.counted.none c.if-count_repeats-eq0.true));
-      marks_unchanged = told.marks_unchanged;
-    }
+returns-then-count_repeats-eq0-clause-value c =
+    sym (refused_none RepeatedRow _ _ (c.count_repeats.ensures.counted.none c.if-count_repeats-eq0.true))
 
-pub first_repeat-requires : goal.first_repeat-requires
-first_repeat-requires c =
-    let same = c.count_repeats.ensures.marks_unchanged in record {
-      shaped = c.requires.shaped;
-      size_in_bounds = (omega arith, λ i l. rw same (c.requires.size_in_bounds.1 i l));
-    }
-
-pub returns : goal.returns
+pub returns-clause-value : goal.returns-clause-value
 unfolding repeated_row
-returns c =
-    let told = c.count_repeats.ensures in
-    let found = c.first_repeat.ensures in
-    let k = told.counted.met (omega arith) in record {
-      value = c.refuse.ensures ∙ rw found.value (sym (some_refused 4 _ _ (some_at _ _ k.0 k.1 k.2)));
-      marks_unchanged = found.marks_unchanged ∙ told.marks_unchanged;
-    }
+returns-clause-value c =
+    let k = c.count_repeats.ensures.counted.met (omega arith) in
+    rw c.first_repeat.ensures.value (sym (some_refused RepeatedRow _ _ (some_at _ _ k.0 k.1 k.2)))

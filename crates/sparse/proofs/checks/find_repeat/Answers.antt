@@ -1,7 +1,4 @@
--- `find_repeat` meets its contract: the marks that are set are taken away again.
-use Prim.Native.Nat.{◌-◌}
-use mathlib.Core.Path.{◌∙◌, ap}
-use native.Mathlib.Omega.{arith}
+use Rattle.std.proofs.Common.{arith, ◌∙◌, ap, ◌-◌}
 use Rattle.sparse.specs.Parts.{marked}
 use Rattle.sparse.proofs.Marks.{unmark_mark}
 use Rattle.sparse.proofs.checks.find_repeat.Goals as goal
