@@ -11,6 +11,5 @@ pub mod ByLength
 pub mod InRow
 pub mod OrderWhole
 pub mod Ranks
-pub mod OrderChecks
 pub mod OrderOutcome
 pub mod BenchSamples
