@@ -125,6 +125,22 @@ pub record Made (n : ℕ) (col : Pattern) (c : Col) (visited cheap scol sat row2
   pub places_length : length sat' ≡ length sat
   pub matching_length : length row2col' ≡ length row2col
 
+-- as the search's contract says it
+pub made : {n : ℕ} {col : Pattern} {c : Col} {v h s a m v' h' s' a' m' : List ℕ} {answer : Bool}
+    → SearchEnds n col m c (c + 1) v h v' h' m' answer → (drop n s' ≡ drop n s) × (drop n a' ≡ drop n a) → length v' ≡ length v
+    → length h' ≡ length h → length s' ≡ length s → length a' ≡ length a → length m' ≡ length m
+    → Made n col c v h s a m v' h' s' a' m' answer
+made E b lv lh ls la lm = record {
+  ends = E;
+  cols_beyond = b.0;
+  places_beyond = b.1;
+  visited_length = lv;
+  cheap_length = lh;
+  cols_length = ls;
+  places_length = la;
+  matching_length = lm;
+}
+
 -- a slice that is kept, and of which then only the first n numbers change, is kept
 kept_then : {n : ℕ} {a₀ a a' : List ℕ} → Kept n a₀ a → length a' ≡ length a → drop n a' ≡ drop n a → Kept n a₀ a'
 kept_then K l e = record { long = omega (arith, K.long); same_length = l ∙ K.same_length; beyond = e ∙ K.beyond }
@@ -224,13 +240,12 @@ going_failed {n} {col} {c} {v = v} {m = m} {v' = v'} {m' = m'} G l M = rw verdic
 
 -- after the last the matching stands in the slice
 pub going_end : {n : ℕ} {col : Pattern} {c : Col} {v₀ h₀ s₀ a₀ m₀ v h s a m : List ℕ}
-    → Going n col c v₀ h₀ s₀ a₀ m₀ v h s a m → n ≤ c → EndsAt n v m c (matching n col)
+    → Going n col c v₀ h₀ s₀ a₀ m₀ v h s a m → n ≤ c → EndsAt n v m n (matching n col)
 unfolding match_from
-going_end {n} {col} {c} {v = v} {m = m} G l =
-    let e : c ≡ n = omega (arith, G.below) in
+going_end {n} {col} {c} {m = m} G l =
     let z : n - c ≡ 0 = omega arith in
     let w : match_from n col (n - c) c (take n m) ≡ accepted (take n m) = ap (λ (x : ℕ). match_from n col x c (take n m)) z in
-    rw (sym G.leads, w) (e, refl)
+    rw (sym G.leads, w) (refl, refl)
 
 -- ---- in storage, with no column replaced
 
