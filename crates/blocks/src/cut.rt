@@ -144,7 +144,6 @@ pub fn cut_blocks<'a>(
         scratch.old visited.new scol.new sat.new entered.new scratch.new }
 {
     clear(blockstarts, size + 1);
-    let none = &rows[0..0];
     let mut blocks = 0u32;
     let mut count = 0u32;
     for i in (0..size).rev() {
@@ -154,7 +153,7 @@ pub fn cut_blocks<'a>(
             starts,
             rows,
             Column(NONE),
-            none,
+            &[],
             row2col,
             c,
             SECOND_PASS,
