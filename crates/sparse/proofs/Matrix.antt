@@ -79,16 +79,6 @@ pub column_end : {size : ℕ} {starts rows : List ℕ} → Shaped size starts ro
     → get_or starts (c + 1) 0 ≤ length rows
 column_end {size = size} s c l = omega (arith, s.to_end, mono s (c + 1) size (omega arith) (omega arith))
 
--- a column lies within the rows, and its rows have their marks
-pub column_within : {size room : ℕ} {starts rows : List ℕ} (c lo hi : ℕ) → Shaped size starts rows → RowsBelow rows size → size ≤ room
-    → c < size → lo ≡ get_or starts c 0 → hi ≡ get_or starts (c + 1) 0
-    → (lo ≤ hi) × (hi ≤ length rows) × RowsBelow rows room
-column_within c lo hi s b m l e f = (
-  omega (arith, s.rising c l),
-  omega (arith, column_end s c l),
-  λ k h. omega (arith, b k h),
-)
-
 -- a column has as many rows as its starts are apart
 pub column_length : {size : ℕ} {starts rows : List ℕ} → Shaped size starts rows → (c : Col) → c < size
     → length (column starts rows c) ≡ width starts c
@@ -113,6 +103,13 @@ part_slice zero t l = let e : t - 0 ≡ t = omega arith in rw e
 part_slice (suc f) zero l = let e : 0 - suc f ≡ 0 = omega arith in rw e
 part_slice (suc f) (suc t) [] = take-nil (suc t - suc f)
 part_slice (suc f) (suc t) (x ∷ l) = let e : suc t - suc f ≡ t - f = omega arith in rw e (part_slice f t l)
+
+-- each row of a column is below n
+pub column_below : {size : ℕ} {starts rows : List ℕ} → Shaped size starts rows → RowsBelow rows size → (c : Col) → c < size
+    → RowsBelow (column starts rows c) size
+column_below {starts = starts} {rows = rows} s b c l k h =
+    let w : k < width starts c = omega (arith, h, column_length s c l) in
+    rw (column_at starts rows c k w) (b (get_or starts c 0 + k) (omega (arith, w, s.rising c l, column_end s c l)))
 
 -- every entry is inside
 pub inside : {size : ℕ} {starts rows : List ℕ} → Shaped size starts rows → RowsBelow rows size → Inside size (column starts rows)

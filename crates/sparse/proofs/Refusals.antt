@@ -11,7 +11,8 @@ use Rattle.graph.specs.Counting.{first, some}
 use Rattle.graph.proofs.Bools.{is_false}
 use Rattle.graph.proofs.Counting.{first_at, first_none, first_le, some_first, some_is, some_false}
 use Rattle.sparse.specs.Refusals.{Checked, passed, number, refused_if, refused_at, first_refusal}
-use Rattle.std.specs.Prelude.{Ok, Err}
+use Rattle.sparse.specs.Parts.{found}
+use Rattle.std.specs.Prelude.{Ok, Err, Some, None}
 use Rattle.sparse.specs.declared.refusal.Refusal.{Refusal}
 
 -- ---- the first refusal of a list
@@ -98,6 +99,33 @@ some_refused at p n e = let k = some_is p n e in rw (lt-ltb (first p n) n (some_
 -- where none is, passed
 pub some_passed : (at : ℕ → Refusal) (p : ℕ → Bool) (n : ℕ) → some p n ≡ false → refused_at at p n ≡ passed
 some_passed at p n e = refused_none at p n (λ k l. some_false p n k e l)
+
+-- the smallest place that p takes, as a search finds it
+pub found_at : (p : ℕ → Bool) (n i : ℕ) → i < n → ((k : ℕ) → k < i → p k ≡ false) → p i ≡ true → found p n ≡ Some i
+unfolding found
+found_at p n i l h e = rw (first_at p n i l h e, lt-ltb i n l)
+
+pub found_none : (p : ℕ → Bool) (n : ℕ) → ((k : ℕ) → k < n → p k ≡ false) → found p n ≡ None
+unfolding found
+found_none p n h = rw (first_none p n h, le-ltb n n (omega arith))
+
+-- refused at what the search finds
+pub refused_found : (at : ℕ → Refusal) (p : ℕ → Bool) (n k : ℕ) → found p n ≡ Some k → refused_at at p n ≡ Err (at k)
+unfolding refused_at found
+refused_found at p n k e = go (ltb (first p n) n) e
+  where
+    go : (b : Bool) → cond b (Some (first p n)) None ≡ Some k → cond b (Err (at (first p n))) passed ≡ Err (at k)
+    go true f = let g : first p n ≡ k = cc in rw g
+    go false f = let z : ◌≡◌ {A = ℕ} 0 1 = cc in absurd (omega arith)
+
+-- passed, where it finds nothing
+pub passed_found : (at : ℕ → Refusal) (p : ℕ → Bool) (n : ℕ) → found p n ≡ None → refused_at at p n ≡ passed
+unfolding refused_at found
+passed_found at p n e = go (ltb (first p n) n) e
+  where
+    go : (b : Bool) → cond b (Some (first p n)) None ≡ None → cond b (Err (at (first p n))) passed ≡ passed
+    go true f = let z : ◌≡◌ {A = ℕ} 0 1 = cc in absurd (omega arith)
+    go false f = refl
 
 -- ---- the number of a refusal
 

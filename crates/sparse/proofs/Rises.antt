@@ -14,9 +14,10 @@ use mir.Val.{bool_byte}
 use Rattle.graph.specs.Counting.{bit, count}
 use Rattle.graph.proofs.Bools.{is_false}
 use Rattle.graph.proofs.Counting.{below}
-use Rattle.sparse.specs.Matrix.{Shaped}
+use Rattle.sparse.specs.Matrix.{Shaped, column}
 use Rattle.sparse.specs.Refusals.{repeats_at}
 use Rattle.sparse.specs.Parts.{row_falls_at, falls_into, enters_falling}
+use Rattle.sparse.proofs.Matrix.{column_at, column_length}
 use Rattle.sparse.proofs.Scans.{none_scanned}
 
 -- ---- counts
@@ -132,8 +133,16 @@ between {size = size} {starts = starts} {rows = rows} s (suc c) l = go (between 
     same : bit (enters_falling starts rows c) ≡ bit (falls_into rows lo hi)
     same = rw (add-one c) refl
 
-    less_self : hi < hi → ⊥
-    less_self x = omega arith
+    wide : hi - lo ≡ get_or starts (c + 1) 0 - lo
+    wide = rw (add-one c) refl
+
+    long : length (column starts rows c) ≡ hi - lo
+    long = column_length s c l ∙ sym wide
+
+    columns_alike : (i j : ℕ) → i < j → j < hi - lo → get_or (column starts rows c) i 0 ≡ get_or (column starts rows c) j 0
+        → get_or rows (lo + i) 0 ≡ get_or rows (lo + j) 0
+    columns_alike i j a b q =
+        sym (column_at starts rows c i (omega (arith, wide))) ∙ q ∙ column_at starts rows c j (omega (arith, wide))
 
     go : Between size starts rows c → Dec (lo < hi) → Between size starts rows (suc c)
     go old (no m) =
@@ -149,19 +158,15 @@ between {size = size} {starts = starts} {rows = rows} s (suc c) l = go (between 
         let into = into_counted rows lo hi in
         record {
           few = omega (arith, same, into, in_hi, old.few);
-          none = λ f k h. none_scanned s c hi l
-              (record {
-                from = up;
-                to = rw (add-one c) (omega arith);
-                apart = λ i j a b d q. omega (
-                  arith,
-                  q,
-                  rising_rows rows lo hi
-                      (λ t x y. count_level p lo (hi - 1) t (omega (arith, f, same, into, in_hi, old.few)) x (omega arith)) i j a b d,
-                );
-                met = λ x. absurd (less_self (rw (add-one c) at x));
-              })
-              (old.none (omega (arith, f, same, into, in_hi, old.few))) k h;
+          none = λ f k h. none_scanned s c (hi - lo) l (rw (long) (omega arith))
+              (λ i j a b q. omega (
+                arith,
+                columns_alike i j a b q,
+                rising_rows rows lo hi
+                    (λ t x y. count_level p lo (hi - 1) t (omega (arith, f, same, into, in_hi, old.few)) x (omega arith)) (lo + i) (lo + j)
+                    (omega arith) (omega arith) (omega arith),
+              ))
+              (old.none (omega (arith, f, same, into, in_hi, old.few))) k (omega arith);
         }
 
 -- where there are as many falls between columns as falls, no row repeats one of its column

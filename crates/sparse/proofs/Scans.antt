@@ -1,58 +1,46 @@
 -- The scan of a column for a repeated row: what one turn finds, and what the scans of all columns come to.
-use Prim.Native.Nat.{ℕ, ◌+◌, ◌-◌, ◌<◌, ◌≤◌}
-use mathlib.Core.Path.{◌≡◌, ap, ◌∙◌}
-use mathlib.Core.List.{List}
-use mathlib.Core.Bool.{true, false}
-use mathlib.Core.Logic.{◌⊎◌, inl, inr}
+use Rattle.std.proofs.Common.{ℕ, ◌+◌, ◌-◌, ◌<◌, ◌≤◌, ◌≡◌, sym, ap, ◌∙◌, List, true, false, ◌⊎◌, inl, inr, arith, length, get_or}
+use Rattle.std.specs.Prelude.{Option, Some, None, unwrap_or}
 use native.Mathlib.Decide.{ℕ_discrete, dec_lt}
-use native.Mathlib.Omega.{arith}
-use lib.ListN.{length, get_or}
 use Rattle.graph.proofs.Bools.{is_false}
-use Rattle.sparse.specs.Matrix.{Shaped}
+use Rattle.sparse.specs.Matrix.{Shaped, column}
 use Rattle.sparse.specs.Refusals.{repeats_at}
-use Rattle.sparse.specs.Parts.{marked, Scanned}
+use Rattle.sparse.specs.Parts.{marked, Apart, Again, FirstAgain}
 use Rattle.sparse.proofs.Marks.{Listed, Unlisted, listed, marked_in, marked_out}
-use Rattle.sparse.proofs.Matrix.{mono}
+use Rattle.sparse.proofs.Matrix.{mono, column_at, column_length}
 use Rattle.sparse.proofs.Repeats.{Repeat, repeat_is, is_repeat}
 
--- ---- one column: m are the marks before the scan, and all rows before place k were marked
+-- ---- one column: m are the marks before the scan, and the first k rows were marked
 
 -- the row at place k has a mark, so it stands before
-pub scan_found : {rows : List ℕ} {lo k : ℕ} → Scanned rows lo k k → (m : List ℕ) (hi : ℕ) → k < hi → get_or m (get_or rows k 0) 0 ≡ 0
-    → (get_or (marked rows 1 lo (k - lo) m) (get_or rows k 0) 0 ≡ 0 → ⊥) → Scanned rows lo hi k
-scan_found {rows = rows} {lo = lo} {k = k} s m hi l z ne = go (listed rows lo (k - lo) (get_or rows k 0))
+pub scan_found : (rows : List ℕ) (k : ℕ) (m : List ℕ) → get_or m (get_or rows k 0) 0 ≡ 0
+    → (get_or (marked rows 1 k m) (get_or rows k 0) 0 ≡ 0 → ⊥) → Again rows k
+scan_found rows k m z ne = go (listed rows k (get_or rows k 0))
   where
-    go : Listed rows lo (k - lo) (get_or rows k 0) ⊎ Unlisted rows lo (k - lo) (get_or rows k 0) → Scanned rows lo hi k
-    go (inl t) = record {
-      from = s.from;
-      to = omega arith;
-      apart = s.apart;
-      met = λ h. (t.0, t.1, omega (arith, t.2, s.from), t.3);
-    }
-    go (inr u) = absurd (ne (marked_out rows 1 lo m (k - lo) (get_or rows k 0) u ∙ z))
+    go : Listed rows k (get_or rows k 0) ⊎ Unlisted rows k (get_or rows k 0) → Again rows k
+    go (inl t) = t
+    go (inr u) = absurd (ne (marked_out rows 1 m k (get_or rows k 0) u ∙ z))
 
--- the row at place k has none, so it does not
-pub scan_more : {rows : List ℕ} {lo k : ℕ} → Scanned rows lo k k → (m : List ℕ) → get_or rows k 0 < length m
-    → get_or (marked rows 1 lo (k - lo) m) (get_or rows k 0) 0 ≡ 0 → Scanned rows lo (k + 1) (k + 1)
-scan_more {rows = rows} {lo = lo} {k = k} s m l z = record {
-  from = omega (arith, s.from);
-  to = omega arith;
-  apart = λ i j a b d f. go i j a b f (ℕ_discrete j k) d;
-  met = λ h. absurd (omega arith);
-}
+-- one row more is apart from those before, where it is none of them
+pub apart_more : (rows : List ℕ) (k : ℕ) → Apart rows k → Unlisted rows k (get_or rows k 0) → Apart rows (k + 1)
+apart_more rows k a u i j l h f = go (ℕ_discrete j k)
   where
-    hit : (i : ℕ) → lo ≤ i → i < k → get_or rows i 0 ≡ get_or rows k 0 → ⊥
-    hit i a b f = omega (arith, z, marked_in rows 1 lo m (k - lo) (get_or rows k 0) l (i, a, omega (arith, s.from), f))
+    go : Dec (j ≡ k) → ⊥
+    go (yes g) = u i (omega arith) (f ∙ ap (λ (y : ℕ). get_or rows y 0) g)
+    go (no g) = a i j l (omega arith) f
 
-    go : (i j : ℕ) → lo ≤ i → i < j → get_or rows i 0 ≡ get_or rows j 0 → Dec (j ≡ k) → j < k + 1 → ⊥
-    go i j a b f (yes g) d = hit i a (omega arith) (f ∙ ap (λ (y : ℕ). get_or rows y 0) g)
-    go i j a b f (no g) d = s.apart i j a b (omega arith) f
+-- the row at place k has no mark, so it does not stand before
+pub scan_more : (rows : List ℕ) (k : ℕ) → Apart rows k → (m : List ℕ) → get_or rows k 0 < length m
+    → get_or (marked rows 1 k m) (get_or rows k 0) 0 ≡ 0 → Apart rows (k + 1)
+scan_more rows k a m l z =
+    apart_more rows k a (λ i h f. omega (arith, z, marked_in rows 1 m k (get_or rows k 0) l (i, h, f)))
+
+-- what a scan finds stands within the column
+pub first_again_le : (rows : List ℕ) (r : Option ℕ) → FirstAgain rows r → unwrap_or r (length rows) ≤ length rows
+first_again_le rows None f = omega arith
+first_again_le rows (Some k) f = omega (arith, f.0)
 
 -- ---- column after column
-
--- the scan of column c came to place r
-abbrev pub ScannedColumn : List ℕ → List ℕ → ℕ → ℕ → Type 0
-ScannedColumn starts rows c r = Scanned rows (get_or starts c 0) (get_or starts (c + 1) 0) r
 
 -- the column that holds a place is the only one
 only : {size : ℕ} {starts rows : List ℕ} → Shaped size starts rows → (c d k : ℕ) → c < size → d < size
@@ -64,23 +52,46 @@ only s c d k lc ld a b e f = go (dec_lt c d) (dec_lt d c)
     go (no l) (yes m) = absurd (omega (arith, mono s (d + 1) c (omega arith) (omega arith)))
     go (no l) (no m) = omega arith
 
--- nothing before the end of the scan of column c is repeated, where nothing before its start is
-pub none_scanned : {size : ℕ} {starts rows : List ℕ} → Shaped size starts rows → (c r : ℕ) → c < size → ScannedColumn starts rows c r
-    → ((k : ℕ) → k < get_or starts c 0 → repeats_at size starts rows k ≡ false) → (k : ℕ) → k < r → repeats_at size starts rows k ≡ false
-none_scanned {size = size} {starts = starts} {rows = rows} s c r l sc old k h = go (dec_lt k (get_or starts c 0))
+-- nothing before place k of column c is repeated, where nothing before its start is and no two of its first rows are alike
+pub none_scanned : {size : ℕ} {starts rows : List ℕ} → Shaped size starts rows → (c k : ℕ) → c < size → k ≤ length (column starts rows c)
+    → Apart (column starts rows c) k → ((i : ℕ) → i < get_or starts c 0 → repeats_at size starts rows i ≡ false)
+    → (i : ℕ) → i < get_or starts c 0 + k → repeats_at size starts rows i ≡ false
+none_scanned {size = size} {starts = starts} {rows = rows} s c k l b apart old i h = go (dec_lt i (get_or starts c 0))
   where
-    hit : get_or starts c 0 ≤ k → Repeat size starts rows k → ⊥
+    lo : ℕ
+    lo = get_or starts c 0
+
+    up : lo + k ≤ get_or starts (c + 1) 0
+    up = omega (arith, s.rising c l, column_length s c l)
+
+    row : (j : ℕ) → lo ≤ j → j < lo + k → get_or (column starts rows c) (j - lo) 0 ≡ get_or rows j 0
+    row j a d =
+        let e : lo + (j - lo) ≡ j = omega arith in
+        column_at starts rows c (j - lo) (omega (arith, up)) ∙ ap (λ (x : ℕ). get_or rows x 0) e
+
+    hit : lo ≤ i → Repeat size starts rows i → ⊥
     hit a q =
-        let e : c ≡ q.col = only s c q.col k l q.below a (omega (arith, sc.to)) (omega (arith, q.from, q.earlier)) q.to in
-        sc.apart q.place k (rw e q.from) q.earlier h q.same
+        let e : c ≡ q.col = only s c q.col i l q.below a (omega (arith, up)) (omega (arith, q.from, q.earlier)) q.to in
+        let from : lo ≤ q.place = rw e q.from in
+        apart (q.place - lo) (i - lo) (omega (arith, from, q.earlier)) (omega arith)
+        (row q.place from (omega (arith, q.earlier)) ∙ q.same ∙ sym (row i a h))
 
-    go : Dec (k < get_or starts c 0) → repeats_at size starts rows k ≡ false
-    go (yes b) = old k b
-    go (no b) = is_false _ (λ t. hit (omega arith) (repeat_is size starts rows k t))
+    go : Dec (i < lo) → repeats_at size starts rows i ≡ false
+    go (yes d) = old i d
+    go (no d) = is_false _ (λ t. hit (omega arith) (repeat_is size starts rows i t))
 
--- where the scan stops before the end of column c, there is a repeat
-pub one_scanned : (size : ℕ) (starts rows : List ℕ) (c r : ℕ) → c < size → ScannedColumn starts rows c r → r < get_or starts (c + 1) 0
-    → repeats_at size starts rows r ≡ true
-one_scanned size starts rows c r l sc h =
-    let j = sc.met h in
-    is_repeat size starts rows r (record { place = j.0; col = c; earlier = j.2; same = j.3; below = l; from = j.1; to = h })
+-- where a row of column c stands before in it, its place is a repeat
+pub one_scanned : {size : ℕ} {starts rows : List ℕ} → Shaped size starts rows → (c k : ℕ) → c < size → k < length (column starts rows c)
+    → Again (column starts rows c) k → repeats_at size starts rows (get_or starts c 0 + k) ≡ true
+one_scanned {size = size} {starts = starts} {rows = rows} s c k l b t =
+    let w : k < get_or starts (c + 1) 0 - get_or starts c 0 = omega (arith, column_length s c l) in
+    is_repeat size starts rows (get_or starts c 0 + k)
+    (record {
+      place = get_or starts c 0 + t.0;
+      col = c;
+      earlier = omega (arith, t.1);
+      same = sym (column_at starts rows c t.0 (omega (arith, t.1))) ∙ t.2 ∙ column_at starts rows c k w;
+      below = l;
+      from = omega arith;
+      to = omega arith;
+    })

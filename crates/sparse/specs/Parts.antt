@@ -1,5 +1,7 @@
 -- What the parts of the checks say to one another. No public contract cites these.
-use Rattle.std.specs.Prelude.{ℕ, zero, suc, ◌+◌, ◌-◌, ◌<◌, ◌≤◌, ◌≡◌, List, Bool, true, false, ◌&&◌, ltb, leb, length, get_or, set}
+use Rattle.std.specs.Prelude.{ℕ, zero, suc, ◌+◌, ◌-◌, ◌<◌, ◌≤◌, ◌≡◌, List, Bool, true, false, cond, ◌&&◌, ltb, leb, length, get_or, set}
+use Rattle.std.specs.Prelude.{Option, Some, None}
+use Rattle.graph.specs.Counting.{first}
 use Rattle.sparse.specs.Refusals.{repeats_at}
 
 -- the first k are zero
@@ -10,23 +12,29 @@ ZeroBelow k xs = (i : ℕ) → i < k → get_or xs i 0 ≡ 0
 abbrev pub Unmarked : List ℕ → List ℕ → Type 0
 Unmarked rows marks = (k : ℕ) → k < length rows → get_or marks (get_or rows k 0) 0 ≡ 0
 
--- v at each of the k rows from lo on
-unfoldable pub marked : List ℕ → ℕ → ℕ → ℕ → List ℕ → List ℕ
-marked rows v lo zero marks = marks
-marked rows v lo (suc k) marks = set (marked rows v lo k marks) (get_or rows (lo + k) 0) v
+-- v at each of the first k rows
+unfoldable pub marked : List ℕ → ℕ → ℕ → List ℕ → List ℕ
+marked rows v zero marks = marks
+marked rows v (suc k) marks = set (marked rows v k marks) (get_or rows k 0) v
 
--- r is the first place of lo..hi whose row stands before it there, or hi
-pub record Scanned (rows : List ℕ) (lo hi r : ℕ) : Type 0 where
-  pub from : lo ≤ r
-  pub to : r ≤ hi
-  pub apart : (j k : ℕ) → lo ≤ j → j < k → k < r → get_or rows j 0 ≡ get_or rows k 0 → ⊥
-  pub met : r < hi → (j : ℕ) × (lo ≤ j) × (j < r) × (get_or rows j 0 ≡ get_or rows r 0)
+-- no two of the first k rows are alike
+abbrev pub Apart : List ℕ → ℕ → Type 0
+Apart rows k = (i j : ℕ) → i < j → j < k → get_or rows i 0 ≡ get_or rows j 0 → ⊥
 
--- r is at most the number of the rows lo..hi, and 0 exactly if no two of them are alike
-pub record Tallied (rows : List ℕ) (lo hi r : ℕ) : Type 0 where
-  pub few : r ≤ hi - lo
-  pub apart : r ≡ 0 → (j k : ℕ) → lo ≤ j → j < k → k < hi → get_or rows j 0 ≡ get_or rows k 0 → ⊥
-  pub met : 0 < r → (j : ℕ) × (k : ℕ) × (lo ≤ j) × (j < k) × (k < hi) × (get_or rows j 0 ≡ get_or rows k 0)
+-- the row at place k stands before it
+abbrev pub Again : List ℕ → ℕ → Type 0
+Again rows k = (i : ℕ) × (i < k) × (get_or rows i 0 ≡ get_or rows k 0)
+
+-- the first place whose row stands before it, if there is one
+abbrev pub FirstAgain : List ℕ → Option ℕ → Type 0
+FirstAgain rows None = Apart rows (length rows)
+FirstAgain rows (Some k) = (k < length rows) × Apart rows k × Again rows k
+
+-- r is at most k, and 0 exactly if no two of the first k rows are alike
+pub record Tallied (rows : List ℕ) (k r : ℕ) : Type 0 where
+  pub few : r ≤ k
+  pub apart : r ≡ 0 → Apart rows k
+  pub met : 0 < r → (j : ℕ) × (j < k) × Again rows j
 
 -- r is at most n, and 0 exactly if no place below n repeats a row of its column
 pub record Counted (size : ℕ) (starts rows : List ℕ) (n r : ℕ) : Type 0 where
@@ -49,3 +57,7 @@ opens_falling starts rows c = falls_into rows (get_or starts c 0 + 1) (get_or st
 -- the first row of column c is not above the last row before it
 abbrev pub enters_falling : List ℕ → List ℕ → ℕ → Bool
 enters_falling starts rows c = falls_into rows (get_or starts c 0) (get_or starts (c + 1) 0)
+
+-- the smallest number below n that p takes, if there is one
+unfoldable pub found : (ℕ → Bool) → ℕ → Option ℕ
+found p n = cond (ltb (first p n) n) (Some (first p n)) None

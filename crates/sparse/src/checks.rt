@@ -1,12 +1,12 @@
 // The checks of a pattern, in the table's order. Each equals its row of the table, for any slices that the checks before it let through.
 ghost use Rattle.std.specs.Prelude.{◌≡◌, ℕ, ◌+◌, ◌-◌, ◌<◌, ◌≤◌, true, false, List, length, unwrap_or, IfOk, IfSome};
-ghost use Rattle.graph.specs.Counting.{count, first, some};
+ghost use Rattle.graph.specs.Counting.{count, some};
 ghost use Rattle.sparse.specs.Limits.{max_size, max_entries};
 ghost use Rattle.sparse.specs.Matrix.{RowsBelow};
 ghost use Rattle.sparse.specs.Refusals.{first_refusal, Buffer, one_short, early, checked};
 ghost use Rattle.sparse.specs.Refusals.{too_large, misshapen, row_outside, repeated_row, empty_column};
 ghost use Rattle.sparse.specs.Refusals.{falls_at, outside_at, repeats_at, empty_at};
-ghost use Rattle.sparse.specs.Parts.{ZeroBelow, Unmarked, Scanned, Tallied, Counted, marked};
+ghost use Rattle.sparse.specs.Parts.{ZeroBelow, Unmarked, FirstAgain, Tallied, Counted, marked, found};
 ghost use Rattle.sparse.specs.Parts.{row_falls_at, falls_into, opens_falling, enters_falling};
 
 use super::slices::{get, put};
@@ -55,16 +55,17 @@ fn any_outside(size: u32, rows: &[u32]) -> bool
     found
 }
 
-fn first_outside(size: u32, rows: &[u32]) -> u32
+// The first row that is not below n.
+fn first_outside(size: u32, rows: &[u32]) -> Option<u32>
     requires { length rows.now ≤ max_entries }
-    ensures { result ≡ first (outside_at size rows.now) (length rows.now) }
+    ensures { result ≡ found (outside_at size rows.now) (length rows.now) }
 {
     for k in 0..rows.len() {
         if size <= rows[k] {
-            return k as u32;
+            return Some(k as u32);
         }
     }
-    rows.len() as u32
+    None
 }
 
 // Refusal 3.
@@ -72,10 +73,13 @@ pub fn check_rows(size: u32, rows: &[u32]) -> Result<(), Refusal>
     requires { length rows.now ≤ max_entries }
     ensures { result ≡ row_outside size rows.now }
 {
-    if any_outside(size, rows) {
-        return Err(Refusal::RowOutside(first_outside(size, rows)));
+    if !any_outside(size, rows) {
+        return Ok(());
     }
-    Ok(())
+    match first_outside(size, rows) {
+        Some(k) => Err(Refusal::RowOutside(k)),
+        None => Ok(()),
+    }
 }
 
 // Refusals 1, 2, 5 and 3, which leave every buffer as it is; the caller has tested its buffers. What they let through is a matrix.
@@ -99,57 +103,54 @@ pub fn check_early<'a>(
     Ok(SquareMat { mat })
 }
 
-// Marks the rows from place lo on, up to the first that is marked already, and says where that stands, or hi.
-fn mark(rows: &[u32], lo: u32, hi: u32, marks: &mut [u32]) -> u32
-    requires lo_le_hi { (lo ≤ hi) × (hi ≤ length rows.now) × RowsBelow rows.now (length marks.old) }
-    requires unmarked { Unmarked rows.now marks.old }
-    ensures scanned { Scanned rows.now lo hi result }
-    ensures marks_after { marks.new ≡ marked rows.now 1 lo (result - lo) marks.old }
+// Marks the rows of a column up to the first that is marked already, and says where that stands, if there is one.
+fn mark(col: &[u32], marks: &mut [u32]) -> Option<usize>
+    requires { RowsBelow col.now (length marks.old) × Unmarked col.now marks.old }
+    ensures again { FirstAgain col.now result }
+    ensures marks_after { marks.new ≡ marked col.now 1 (unwrap_or result (length col.now)) marks.old }
 {
-    for k in lo..hi {
-        let row: OriginalRow = get(rows, k);
+    for (k, row) in col.iter().enumerate() {
+        let row = OriginalRow(*row);
         if get::<OriginalRow, u32>(marks, row) != 0 {
-            return k;
+            return Some(k);
         }
         put(marks, row, 1);
     }
-    hi
+    None
 }
 
-// Takes the marks of the rows lo..hi away.
-fn unmark(rows: &[u32], lo: u32, hi: u32, marks: &mut [u32])
-    requires { (lo ≤ hi) × (hi ≤ length rows.now) × RowsBelow rows.now (length marks.old) }
-    ensures { marks.new ≡ marked rows.now 0 lo (hi - lo) marks.old }
+// Takes the marks of the rows of a column away.
+fn unmark(col: &[u32], marks: &mut [u32])
+    requires { RowsBelow col.now (length marks.old) }
+    ensures { marks.new ≡ marked col.now 0 (length col.now) marks.old }
 {
-    for k in lo..hi {
-        let row: OriginalRow = get(rows, k);
-        put(marks, row, 0);
+    for row in col {
+        put(marks, OriginalRow(*row), 0);
     }
 }
 
-// The first place of lo..hi whose row stands before it there, or hi. The marks are as they were.
-pub fn find_repeat(rows: &[u32], lo: u32, hi: u32, marks: &mut [u32]) -> u32
-    requires lo_le_hi { (lo ≤ hi) × (hi ≤ length rows.now) × RowsBelow rows.now (length marks.old) }
-    requires unmarked { Unmarked rows.now marks.old }
-    ensures scanned { Scanned rows.now lo hi result }
+// The first place of a column whose row stands before it there, if there is one. The marks are as they were.
+pub fn find_repeat(col: &[u32], marks: &mut [u32]) -> Option<usize>
+    requires { RowsBelow col.now (length marks.old) × Unmarked col.now marks.old }
+    ensures again { FirstAgain col.now result }
     ensures marks_unchanged { marks.new ≡ marks.old }
 {
-    let k = mark(rows, lo, hi, marks);
-    unmark(rows, lo, k, marks);
-    k
+    let place = mark(col, marks);
+    unmark(col, marks);
+    place
 }
 
-// Marks the rows lo..hi and says how many of them were marked already. Where mark stops at the first, this goes on: a loop without
-// a branch is faster, and nearly every column has no repeat.
-fn tally(rows: &[u32], lo: u32, hi: u32, marks: &mut [u32]) -> u32
-    requires lo_le_hi { (lo ≤ hi) × (hi ≤ length rows.now) × RowsBelow rows.now (length marks.old) }
-    requires unmarked { Unmarked rows.now marks.old }
-    ensures tallied { Tallied rows.now lo hi result }
-    ensures marks_after { marks.new ≡ marked rows.now 1 lo (hi - lo) marks.old }
+// Marks the rows of a column and says how many of them were marked already. Where mark stops at the first, this goes on: a loop
+// without a branch is faster, and nearly every column has no repeat.
+fn tally(col: &[u32], marks: &mut [u32]) -> u32
+    requires few { length col.now ≤ max_entries }
+    requires unmarked { RowsBelow col.now (length marks.old) × Unmarked col.now marks.old }
+    ensures tallied { Tallied col.now (length col.now) result }
+    ensures marks_after { marks.new ≡ marked col.now 1 (length col.now) marks.old }
 {
     let mut seen = 0u32;
-    for k in lo..hi {
-        let row: OriginalRow = get(rows, k);
+    for row in col {
+        let row = OriginalRow(*row);
         seen += get::<OriginalRow, u32>(marks, row);
         put(marks, row, 1);
     }
@@ -163,34 +164,30 @@ fn count_repeats(mat: &SquareMat, marks: &mut [u32]) -> u32
         (length mat.now.mat.rows.now) result }
     ensures marks_unchanged { marks.new ≡ marks.old }
 {
-    let SparseMat { size, starts, rows } = mat.mat;
     let mut again = 0u32;
-    for c in 0..size {
-        let lo: u32 = get(starts, c);
-        let hi: u32 = get(starts, c + 1);
-        again += tally(rows, lo, hi, marks);
-        unmark(rows, lo, hi, marks);
+    for c in 0..mat.mat.size {
+        let rows = mat.mat.col_rows(Column(c));
+        again += tally(rows, marks);
+        unmark(rows, marks);
     }
     again
 }
 
-// The first place that repeats a row of its column, or the number of rows.
-fn first_repeat(mat: &SquareMat, marks: &mut [u32]) -> u32
+// The first place that repeats a row of its column, if there is one.
+fn first_repeat(mat: &SquareMat, marks: &mut [u32]) -> Option<u32>
     requires { (mat.now.mat.size ≤ length marks.old) × ZeroBelow mat.now.mat.size marks.old }
-    ensures value { result ≡ first (repeats_at mat.now.mat.size mat.now.mat.starts.now mat.now.mat.rows.now)
+    ensures value { result ≡ found (repeats_at mat.now.mat.size mat.now.mat.starts.now mat.now.mat.rows.now)
         (length mat.now.mat.rows.now) }
     ensures marks_unchanged { marks.new ≡ marks.old }
 {
-    let SparseMat { size, starts, rows } = mat.mat;
-    for c in 0..size {
-        let lo: u32 = get(starts, c);
-        let hi: u32 = get(starts, c + 1);
-        let place = find_repeat(rows, lo, hi, marks);
-        if place < hi {
-            return place;
+    for c in 0..mat.mat.size {
+        let c = Column(c);
+        if let Some(k) = find_repeat(mat.mat.col_rows(c), marks) {
+            let lo: u32 = get(mat.mat.starts, c);
+            return Some(lo + k as u32);
         }
     }
-    rows.len() as u32
+    None
 }
 
 // Whether there is a row before place lo, and the first of the rows lo..hi is not above it.
@@ -271,7 +268,10 @@ pub fn check_repeats(mat: &SquareMat, marks: &mut [u32]) -> Result<(), Refusal>
     if count_repeats(mat, marks) == 0 {
         return Ok(());
     }
-    Err(Refusal::RepeatedRow(first_repeat(mat, marks)))
+    match first_repeat(mat, marks) {
+        Some(k) => Err(Refusal::RepeatedRow(k)),
+        None => Ok(()),
+    }
 }
 
 fn any_empty(size: u32, starts: &[u32]) -> bool
@@ -285,16 +285,17 @@ fn any_empty(size: u32, starts: &[u32]) -> bool
     found
 }
 
-fn first_empty(size: u32, starts: &[u32]) -> u32
+// The first column without rows.
+fn first_empty(size: u32, starts: &[u32]) -> Option<u32>
     requires { (length starts.now ≡ size + 1) × (size ≤ max_size) }
-    ensures { result ≡ first (empty_at starts.now) size }
+    ensures { result ≡ found (empty_at starts.now) size }
 {
     for c in 0..size as usize {
         if starts[c + 1] <= starts[c] {
-            return c as u32;
+            return Some(c as u32);
         }
     }
-    size
+    None
 }
 
 // Refusal 8.
@@ -302,8 +303,11 @@ pub fn check_columns(size: u32, starts: &[u32]) -> Result<(), Refusal>
     requires { (length starts.now ≡ size + 1) × (size ≤ max_size) }
     ensures { result ≡ empty_column size starts.now }
 {
-    if any_empty(size, starts) {
-        return Err(Refusal::EmptyColumn(Column(first_empty(size, starts))));
+    if !any_empty(size, starts) {
+        return Ok(());
     }
-    Ok(())
+    match first_empty(size, starts) {
+        Some(c) => Err(Refusal::EmptyColumn(Column(c))),
+        None => Ok(()),
+    }
 }

@@ -5,4 +5,5 @@ use Rattle.sparse.proofs.checks.count_repeats.Given as goal
 
 abbrev pub invariant-loop-c : goal.invariant-loop-c
 invariant-loop-c l =
-    (l.marks ≡ l.initial.marks) × Counted l.size l.starts l.rows (get_or l.starts l.c 0) l.again
+    let mat = l.fn.mat.mat in
+    (l.marks ≡ l.initial.marks) × Counted mat.size mat.starts.now mat.rows.now (get_or mat.starts.now l.c 0) l.again

@@ -5,4 +5,6 @@ use Rattle.sparse.proofs.checks.first_repeat.Given as goal
 
 abbrev pub invariant-loop-c : goal.invariant-loop-c
 invariant-loop-c l =
-    (l.marks ≡ l.initial.marks) × ((k : ℕ) → k < get_or l.starts l.c 0 → repeats_at l.size l.starts l.rows k ≡ false)
+    let mat = l.fn.mat.mat in
+    (l.marks ≡ l.initial.marks)
+    × ((k : ℕ) → k < get_or mat.starts.now l.c 0 → repeats_at mat.size mat.starts.now mat.rows.now k ≡ false)
