@@ -18,7 +18,7 @@ use Rattle.matching.proofs.Stack.{Goal}
 use Rattle.matching.proofs.Walk.{Slices, Stage, entering, failing, finding, Walk, Scanning}
 use Rattle.matching.proofs.Walk.{is_visited, few_visited, top_room, top_below}
 use Rattle.matching.proofs.Turns.{turn_free, turn_none, turn_again, turn_back, turn_on, open_new}
-use Rattle.matching.proofs.Falls.{weight, within, free_falls, none_falls, again_falls, back_falls, on_falls}
+use Rattle.matching.proofs.Falls.{weight, within, free_falls, none_falls, again_falls, on_falls}
 
 -- ---- the step on top
 
@@ -198,11 +198,3 @@ fall_again {g} {mark} {depth} {v = v} {cs = cs} l H stamp A B =
     subst (λ d. within g.n mark v (depth - 1) ≤ weight g.n mark v cs d) e
     (again_falls g.n mark (depth - 1) v cs (rw H.column at stamp)) in
     omega (arith, less, on_falls A (rw (H.rows, H.column) at B))
-
--- with a visit that found a path
-pub fall_back : {col : Pattern} {cs : List ℕ} {c : Col} {rs : List Row} (n mark depth : ℕ) (v : List ℕ) → 0 < depth
-    → Hand col cs (depth - 1) c rs → get_or v c 0 ≡ mark → weight n mark v cs (depth - 1) < weight n mark v cs depth
-fall_back {cs = cs} n mark depth v l H stamp =
-    let e : suc (depth - 1) ≡ depth = omega arith in
-    subst (λ d. weight n mark v cs (depth - 1) < weight n mark v cs d) e
-    (back_falls n mark (depth - 1) v cs (rw H.column at stamp))

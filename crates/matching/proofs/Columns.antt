@@ -22,7 +22,7 @@ use Rattle.sparse.specs.Matrix.{column, column_or, Shaped, RowsBelow}
 use Rattle.sparse.proofs.Matrix.{column_beyond}
 use Rattle.matching.specs.Matching.{search, accepted, refused, match_from, matching}
 use Rattle.matching.specs.Parts.{Fresh, EndsAt, SameBeyond}
-use Rattle.matching.specs.Search.{stamped, Cheap, is_found, moved, SearchReady, SearchEnds}
+use Rattle.matching.specs.Search.{stamped, Cheap, is_found, moved, SearchEnds}
 use Rattle.matching.proofs.Front.{agree_take, search_agree, take-moved, drop-moved}
 use Rattle.matching.proofs.Matching.{match_found, match_failed}
 use Rattle.matching.proofs.Ready.{inside_or, short_or}
@@ -94,23 +94,6 @@ going_start {n} {col} {visited} {cheap} {scol} {sat} {row2col} I short F = recor
     places = kept_start n sat F.places_long;
     matching = kept_start n row2col F.matching_long;
   };
-}
-
--- then the next search can be made, with a stamp of its own
-pub going_ready : {n : ℕ} {col : Pattern} {c : Col} {v₀ h₀ s₀ a₀ m₀ visited cheap scol sat row2col : List ℕ}
-    → Going n col c v₀ h₀ s₀ a₀ m₀ visited cheap scol sat row2col → c < n
-    → SearchReady n col row2col c (c + 1) visited cheap scol sat
-going_ready G l = record {
-  inside = G.inside;
-  short = G.short;
-  below = l;
-  unstamped = λ d k e. omega (arith, G.stamps d k);
-  sound = G.sound;
-  matching_long = G.slices.matching.long;
-  stamps_long = G.slices.visited.long;
-  cheap_long = G.slices.cheap.long;
-  cols_long = G.slices.cols.long;
-  places_long = G.slices.places.long;
 }
 
 -- the search of column c ended: what it leaves of the slices

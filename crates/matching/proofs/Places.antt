@@ -14,10 +14,6 @@ use Rattle.graph.proofs.Lists.{mem_get_or}
 use Rattle.graph.proofs.Search.{FirstFree, now, later, NoneFree}
 use Rattle.matching.specs.Parts.{col_at}
 
--- nothing lies between a place and itself
-pub between_none : (P : ℕ → Type 0) (i : ℕ) (k : ℕ) → i ≤ k → k < i → P k
-between_none P i k l h = absurd (omega arith)
-
 -- what holds between two places and at the second holds up to the one behind it
 pub between_more : (P : ℕ → Type 0) (i j : ℕ) → ((k : ℕ) → i ≤ k → k < j → P k) → P j → (k : ℕ) → i ≤ k → k < j + 1 → P k
 between_more P i j all here k l h = ⊎_elim (λ e. subst P (sym e) here) (all k l) (eq-or-lt_of_le (omega arith))

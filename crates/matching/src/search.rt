@@ -31,6 +31,7 @@ pub fn scan_next(col: &[u32], row2col: &[u32], visited: &[u32], mark: u32, from:
             return k;
         }
     }
+    // Nothing demands of a caller that it starts within the column.
     from.max(len)
 }
 
