@@ -1,5 +1,5 @@
 // The entry of the edit.
-ghost use Rattle.std.specs.Prelude.{◌≡◌, ◌+◌, ltb, length};
+ghost use Rattle.std.specs.Prelude.{◌≡◌};
 ghost use Rattle.sparse.specs.Matrix.{Shaped, RowsBelow};
 ghost use Rattle.sparse.specs.Refusals.{Roomy};
 ghost use Rattle.triangular.specs.Outcome.{Work, work, outputs, lent, buffers, cleared, ended};
