@@ -1,7 +1,7 @@
 // The answer of a call as it is stored, and what it says of the lent buffers.
 ghost use Rattle.std.specs.Prelude.{◌≤◌, length};
 
-use super::lists::Numbers;
+use super::lists::{Numbers, zeros};
 use matching::MatchingAnswer;
 use ordering::OrderAnswer;
 use sparse::Refusal;
@@ -18,11 +18,6 @@ const NO_ROOM: u32 = 5;
 
 // The refusal where there is no perfect matching.
 const UNMATCHED: u32 = 9;
-
-// Something lies in each lent buffer beyond the most entries and the rows of one more column.
-pub const LENT_ENTRIES: usize = 4168;
-
-static ZEROS: [u32; LENT_ENTRIES] = [0; LENT_ENTRIES];
 
 // What becomes of the lent buffers.
 #[derive(Clone, Copy)]
@@ -110,10 +105,4 @@ pub fn with_count(answer: BlockAnswer) -> (Answer, u32) {
         BlockAnswer::Accepted(count) => (ACCEPTED, count),
         BlockAnswer::Refused(refusal) => (Answer::from(refusal), 0),
     }
-}
-
-pub fn zeros(count: usize) -> &'static [u32]
-    requires { count ≤ 4168 }
-{
-    &ZEROS[..count]
 }

@@ -2,8 +2,8 @@
 // where it is 9. Other answers have none.
 ghost use Rattle.std.specs.Prelude.{◌≤◌, length};
 
-use super::answer::{Answer, Outcome, zeros};
-use super::lists::{JUNK, LENT, Numbers, any_differs, differs};
+use super::answer::{Answer, Outcome};
+use super::lists::{JUNK, LENT, Numbers, any_differs, differs, zeros};
 use super::pattern::Pattern;
 
 // What row2col and hall hold afterwards: one of them the stored list, the other zero, and after other refusals neither is written.

@@ -2,10 +2,10 @@
 // many there are, their columns, their starts.
 ghost use Rattle.std.specs.Prelude.{◌+◌, ◌≤◌, length};
 
-use super::answer::{Outcome, with_count, zeros};
+use super::answer::{Outcome, with_count};
 use super::diagonal::Diagonal;
 use super::lent::Lent;
-use super::lists::{Numbers, any_differs, differs};
+use super::lists::{Numbers, any_differs, differs, zeros};
 use super::pattern::Pattern;
 use triangular::BlockAnswer;
 

@@ -1,6 +1,5 @@
 // The buffers that a call of kind 3 or 4 is lent.
-use super::answer::LENT_ENTRIES;
-use super::lists::{JUNK, LENT};
+use super::lists::{JUNK, LENT, LENT_ENTRIES};
 
 #[derive(Drop)]
 pub struct Lent {

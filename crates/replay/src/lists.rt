@@ -1,5 +1,5 @@
 // Reading lists of numbers, and comparing lent buffers with what they are to hold.
-ghost use Rattle.std.specs.Prelude.{◌≡◌, ℕ, ◌+◌, ◌≤◌, ◌<◌, ◌↔◌, [], ◌∷◌, ◌++◌, length, get_or, IsNone, IfSome};
+ghost use Rattle.std.specs.Prelude.{◌≡◌, ℕ, ◌+◌, ◌≤◌, ◌<◌, ◌↔◌, [], ◌∷◌, ◌++◌, length, get_or, replicate, IsNone, IfSome};
 ghost use Rattle.graph.specs.Counting.{some};
 ghost use Rattle.replay.specs.Lists.{part_of, differs_at, junk};
 
@@ -8,6 +8,11 @@ pub const JUNK: u32 = 3735928559;
 
 // Of each lent buffer something lies beyond the largest size.
 pub const LENT: usize = 72;
+
+// The same for a buffer that goes by entries: something lies beyond the most of them and the rows of one more column.
+pub const LENT_ENTRIES: usize = 4168;
+
+static ZEROS: [u32; LENT_ENTRIES] = [0; LENT_ENTRIES];
 
 // The stored numbers that are not read yet.
 #[derive(Drop)]
@@ -54,6 +59,14 @@ fn number_or_junk(list: &[u32], i: usize) -> u32
     ensures { result ≡ get_or list.now i junk }
 {
     list.get(i).copied().unwrap_or(JUNK)
+}
+
+// What stands where a call has cleared so many numbers.
+pub fn zeros(count: usize) -> &'static [u32]
+    requires { count ≤ 4168 }
+    ensures { result.now ≡ replicate count 0 }
+{
+    &ZEROS[..count]
 }
 
 // A buffer with a list at its start and junk after that.

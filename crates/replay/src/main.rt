@@ -31,10 +31,10 @@ const TEXT_ROOM: usize = 163841;
 const NUMBERS_ROOM: usize = 65537;
 
 // Whether the next case agrees, or none where it is malformed. Each kind has its line here.
-fn replay_case(kind: Kind, numbers: &mut Numbers) -> Option<bool>
+fn replay_case(code: u32, numbers: &mut Numbers) -> Option<bool>
     ensures { length numbers.new.rest.now ≤ length numbers.old.rest.now }
 {
-    match kind {
+    match Kind::try_from(code).ok()? {
         Kind::Order => Some(order::Order::read(numbers)?.agrees()),
         Kind::Diagonal => Some(diagonal::Diagonal::read(numbers)?.agrees()),
         Kind::Form => Some(form::Form::read(numbers)?.agrees()),
@@ -54,10 +54,7 @@ fn replay_all<R: Print>(rt: &R, numbers: &[u32], whole: bool) -> io::Result<()> 
     let mut agreed = 0u64;
     while let Some(code) = numbers.number() {
         cases += 1;
-        let Ok(kind) = Kind::try_from(code) else {
-            return say_malformed(rt, cases);
-        };
-        let Some(agrees) = replay_case(kind, &mut numbers) else {
+        let Some(agrees) = replay_case(code, &mut numbers) else {
             return say_malformed(rt, cases);
         };
         if agrees {

@@ -79,10 +79,10 @@ pub fn read_numbers(text: &[u8], numbers: &mut [u32]) -> Result<usize, Cut>
         ≡ stored_from [] (length numbers.old) text.now 0 }
 {
     let mut at: usize = 0;
-    for count in 0..numbers.len() {
+    for (count, stored) in numbers.iter_mut().enumerate() {
         match number_at(text, at) {
             Some(Ok(number)) => {
-                numbers[count] = number.value;
+                *stored = number.value;
                 at = number.end;
             }
             Some(Err(TooLarge)) => return Err(Cut { count }),

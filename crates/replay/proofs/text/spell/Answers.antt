@@ -17,10 +17,11 @@ returns-in_default-try_from c =
 pub loop-end-preserved : goal.loop-end-preserved
 loop-end-preserved c =
     let fits = c.in-Ok.ensures in
-    let more : c.in-Ok.more ≡ c.loop-end.value * 10 + c.in-Some.digit = omega arith in
-    (omega arith,
-    rw more (spell_digit c.args.text.now c.loop-end.end c.loop-end.value c.loop-end-test.true
-    (sym c.digit.ensures.value ∙ c.in-Some.is) (omega arith) ∙ c.loop-end.invariant.1))
+    let more : c.in-Ok.more ≡ c.loop-end.value * 10 + c.in-Some.digit = omega arith in (
+      omega arith,
+      rw more (spell_digit c.args.text.now c.loop-end.end c.loop-end.value c.loop-end-test.true
+          (sym c.digit.ensures.value ∙ c.in-Some.is) (omega arith) ∙ c.loop-end.invariant.1),
+    )
 
 pub returns : goal.returns
 returns c =
