@@ -3,6 +3,8 @@ ghost use Rattle.std.specs.Prelude.{◌≡◌, ℕ, ◌+◌, ◌≤◌, ◌<◌,
 ghost use Rattle.graph.specs.Counting.{some};
 ghost use Rattle.replay.specs.Lists.{part_of, differs_at, junk};
 
+use std::array;
+
 // What stands in a lent buffer before a call: nothing that a call stores.
 pub const JUNK: u32 = 3735928559;
 
@@ -73,11 +75,7 @@ pub fn zeros(count: usize) -> &'static [u32]
 pub fn holding(list: &[u32]) -> [u32; LENT]
     ensures { (i : ℕ) → i < 72 → get_or result i 0 ≡ get_or list.now i junk }
 {
-    let mut buffer = [JUNK; LENT];
-    for (i, number) in buffer.iter_mut().enumerate() {
-        *number = number_or_junk(list, i);
-    }
-    buffer
+    array::from_fn(|i| number_or_junk(list, i))
 }
 
 // Whether a buffer holds anything but a list at its start and junk after that.
