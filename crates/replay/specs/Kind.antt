@@ -1,5 +1,5 @@
 -- The kinds of cases, and the numbers that stand for them in a text.
-use Rattle.std.specs.Prelude.{◌≡◌, ℕ, ◌≤◌, Result, MatchResult}
+use Rattle.std.specs.Prelude.{◌≡◌, ℕ, Result, MatchResult}
 use Rattle.replay.specs.declared.kind.Kind.{Kind}
 use Rattle.replay.specs.declared.kind.Kind.TheVariants.{Order, Diagonal, Form, Edit}
 use Rattle.replay.specs.declared.kind.UnknownKind.{UnknownKind}

@@ -15,7 +15,6 @@ mod order;
 mod pattern;
 mod text;
 
-use column::Edit;
 use kind::Kind;
 use lists::Numbers;
 use std::io;
@@ -38,7 +37,7 @@ fn replay_case(code: u32, numbers: &mut Numbers) -> Option<bool>
         Kind::Order => Some(order::Order::read(numbers)?.agrees()),
         Kind::Diagonal => Some(diagonal::Diagonal::read(numbers)?.agrees()),
         Kind::Form => Some(form::Form::read(numbers)?.agrees()),
-        Kind::Edit => Some(Edit::read(numbers)?.agrees()),
+        Kind::Edit => Some(column::Edit::read(numbers)?.agrees()),
     }
 }
 

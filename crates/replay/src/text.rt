@@ -23,8 +23,7 @@ pub struct Cut {
 
 // The value of a digit.
 fn digit(b: u8) -> Option<u32>
-    ensures value { result ≡ digit_of b }
-    ensures below_ten { IfSome result (λ digit. digit < 10) }
+    ensures { result ≡ digit_of b }
 {
     char::from(b).to_digit(10)
 }

@@ -11,7 +11,7 @@ digit_is None b m v = grind (arith, nat_tests)
 digit_is (Some d) b (inl m) v = grind (arith, nat_tests)
 digit_is (Some d) b (inr m) v = grind (arith, nat_tests)
 
-pub returns-clause-value : goal.returns-clause-value
-returns-clause-value c =
+pub returns : goal.returns
+returns c =
     let h = c.to_digit.ensures in
     rw (← c.from.ensures) (digit_is c.to_digit.result c.from.result h.cases h.value)

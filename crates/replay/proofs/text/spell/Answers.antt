@@ -6,13 +6,13 @@ use Rattle.replay.proofs.text.spell.Goals as goal
 pub returns-in_default : goal.returns-in_default
 returns-in_default c =
     sym (spell_other c.args.text.now c.loop-end.end c.loop-end.value c.loop-end-test.true
-    (sym c.digit.ensures.value ∙ c.in_default.is)) ∙ c.loop-end.invariant.1
+    (sym c.digit.ensures ∙ c.in_default.is)) ∙ c.loop-end.invariant.1
 
 pub returns-in_default-try_from : goal.returns-in_default-try_from
 returns-in_default-try_from c =
     let fits = c.in_default-try_from.ensures in
     sym (spell_large c.args.text.now c.loop-end.end c.loop-end.value c.loop-end-test.true
-    (sym c.digit.ensures.value ∙ c.in-Some.is) (omega arith)) ∙ c.loop-end.invariant.1
+    (sym c.digit.ensures ∙ c.in-Some.is) (omega arith)) ∙ c.loop-end.invariant.1
 
 pub loop-end-preserved : goal.loop-end-preserved
 loop-end-preserved c =
@@ -20,7 +20,7 @@ loop-end-preserved c =
     let more : c.in-Ok.more ≡ c.loop-end.value * 10 + c.in-Some.digit = omega arith in (
       omega arith,
       rw more (spell_digit c.args.text.now c.loop-end.end c.loop-end.value c.loop-end-test.true
-          (sym c.digit.ensures.value ∙ c.in-Some.is) (omega arith) ∙ c.loop-end.invariant.1),
+          (sym c.digit.ensures ∙ c.in-Some.is) (omega arith) ∙ c.loop-end.invariant.1),
     )
 
 pub returns : goal.returns
