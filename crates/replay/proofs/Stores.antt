@@ -1,7 +1,7 @@
 -- One turn of the loop that stores the numbers of a text, by what stands next in it.
 use Prim.Native.Nat.{ℕ, suc, ◌+◌, ◌-◌, ◌<◌, ◌≤◌}
 use mathlib.Core.Path.{◌≡◌}
-use mathlib.Core.List.{List, []}
+use mathlib.Core.List.{List}
 use mathlib.Core.Bool.{true, false}
 use native.Mathlib.Numerals.{add-one}
 use native.Mathlib.Omega.{arith}
@@ -20,11 +20,6 @@ onward numbers count text at = stored_from (take count numbers) (length numbers 
 room : (numbers : List ℕ) (count : ℕ) → count < length numbers → length numbers - count ≡ suc (length numbers - (count + 1))
 room numbers count l = omega arith
 
-pub store_none : (numbers text : List ℕ) → onward numbers 0 text 0 ≡ stored_from [] (length numbers) text 0
-store_none numbers text =
-    let e : length numbers - 0 ≡ length numbers = omega arith in
-    rw e
-
 module _ (numbers : List ℕ) (count : ℕ) (text : List ℕ) (at : ℕ) where
   pub store_full : length numbers ≤ count → onward numbers count text at ≡ stored (take count numbers) false
   unfolding stored_from
@@ -32,7 +27,8 @@ module _ (numbers : List ℕ) (count : ℕ) (text : List ℕ) (at : ℕ) where
       let e : length numbers - count ≡ 0 = omega arith in
       rw e
 
-  pub store_large : {e : TooLarge} → count < length numbers → number_at text at ≡ Some (Err e) → onward numbers count text at ≡ stored (take count numbers) false
+  pub store_large : {e : TooLarge} → count < length numbers → number_at text at ≡ Some (Err e)
+      → onward numbers count text at ≡ stored (take count numbers) false
   unfolding stored_from
   store_large l n = rw (room numbers count l, n)
 

@@ -1,5 +1,6 @@
 -- The decimal numbers of a text, which is a list of bytes.
-use Rattle.std.specs.Prelude.{ℕ, zero, suc, ◌+◌, ◌*◌, ◌-◌, List, [], ◌∷◌, ◌++◌, Bool, true, false, cond, ltb, drop, Option, Some, None, is_some, Result, Ok, Err}
+use Rattle.std.specs.Prelude.{ℕ, zero, suc, ◌+◌, ◌*◌, ◌-◌, List, [], ◌∷◌, ◌++◌, drop, Bool, true, false, cond, ltb}
+use Rattle.std.specs.Prelude.{Option, Some, None, is_some, Result, Ok, Err}
 use Rattle.replay.specs.declared.text.Spelled.{Spelled}
 use Rattle.replay.specs.declared.text.TooLarge.{TooLarge}
 use Rattle.replay.specs.declared.text.Cut.{Cut}

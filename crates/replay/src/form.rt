@@ -18,10 +18,10 @@ pub struct Blocks<'a> {
 }
 
 impl<'a> Blocks<'a> {
-    fn read(size: usize, numbers: &mut Numbers<'a>) -> Option<Blocks<'a>>
-        requires { size ≤ 64 }
+    fn read(size: u32, numbers: &mut Numbers<'a>) -> Option<Blocks<'a>>
         ensures { length numbers.new.rest.now ≤ length numbers.old.rest.now }
     {
+        let size = size as usize;
         let count = numbers.number()?;
         let columns = numbers.list(size)?;
         let starts = numbers.list(size + 1)?;
@@ -54,7 +54,7 @@ impl<'a> Form<'a> {
         let matching = Diagonal::read_behind(pattern, numbers)?;
         let size = matching.pattern.columns();
         let blocks = match matching.answer.outcome() {
-            Outcome::Accepted => Blocks::read(size, numbers)?,
+            Outcome::Accepted => Blocks::read(matching.pattern.size, numbers)?,
             Outcome::Unmatched => Blocks {
                 count: 0,
                 columns: zeros(size),

@@ -5,7 +5,8 @@ use Rattle.std.specs.Char.{NotDecimalDigitIn, IsDigitOf, digit_value}
 use Rattle.replay.specs.Text.{digit_of}
 use Rattle.replay.proofs.text.digit.Goals as goal
 
-digit_is : (r : Option ℕ) (b : ℕ) → MatchOption r (NotDecimalDigitIn 10 b) (IsDigitOf b) → SomeIff r (digit_value b < 10) (digit_value b) → r ≡ digit_of b
+digit_is : (r : Option ℕ) (b : ℕ) → MatchOption r (NotDecimalDigitIn 10 b) (IsDigitOf b)
+    → SomeIff r (digit_value b < 10) (digit_value b) → r ≡ digit_of b
 unfolding digit_of
 digit_is None b m v = grind (arith, nat_tests)
 digit_is (Some d) b (inl m) v = grind (arith, nat_tests)
