@@ -1,7 +1,8 @@
 // Reading and writing lent slices. What a slice holds, and what it goes by, leaves and enters here as its kind.
 // After inlining none of these costs anything.
 ghost use Rattle.std.specs.Prelude.{◌≡◌, ℕ, ◌<◌, ◌≤◌, ◌++◌, length, get_or, set, replicate, drop};
-ghost use Rattle.sparse.specs.Buffers.{zeroed};
+ghost use Rattle.graph.specs.Permutations.{Permutes, inverse};
+ghost use Rattle.sparse.specs.Buffers.{filled, zeroed};
 
 use super::{Column, NewRow, OriginalRow};
 
@@ -94,4 +95,17 @@ pub fn clear(s: &mut [u32], k: u32)
     ensures { s.new ≡ zeroed k s.old }
 {
     fill(s, k, 0);
+}
+
+// A numbering turned round: what `back` holds for each number is the number by which `forth` holds it.
+pub fn invert<K: Kind, V: Kind>(size: u32, forth: &[u32], back: &mut [u32])
+    requires size_in_bounds { (size ≤ length forth.now) × (size ≤ length back.old) }
+    requires permutes { Permutes size forth.now }
+    ensures { back.new ≡ filled (inverse size forth.now) back.old }
+{
+    for i in 0..size {
+        let k = K::of(i);
+        let v: V = get(forth, k);
+        put(back, v, k);
+    }
 }
