@@ -4,4 +4,4 @@
 pub mod order;
 pub mod queue;
 
-pub use order::{OrderAnswer, order_simple};
+pub use order::{OrderBuffers, order_simple};
