@@ -1,10 +1,10 @@
 -- The searches of all columns, one after the other, follow the rule: what holds between two, and how they end.
 use Prim.Native.Nat.{ℕ, suc, ◌+◌, ◌-◌, ◌<◌, ◌≤◌}
-use mathlib.Core.Path.{◌≡◌, refl, sym, ap, ◌∙◌, subst, fun_ext}
+use mathlib.Core.Path.{◌≡◌, refl, sym, ap, ◌∙◌, fun_ext}
 use mathlib.Core.Bool.{Bool, true, false}
 use mathlib.Core.List.Memᴰ
 use mathlib.Core.List.{List, [], ◌∷◌}
-use mathlib.Core.Logic.{◌↔◌, inr}
+use mathlib.Core.Logic.{◌↔◌}
 use native.Mathlib.Decide.{ℕ_discrete}
 use native.Mathlib.Omega.{arith}
 use borrow.Author.Tests.{eq-eqb, ne_eqb}
@@ -19,13 +19,15 @@ use Rattle.graph.proofs.Lists.{elem_mem, not_elem}
 use Rattle.graph.proofs.Search.{AllBelow}
 use Rattle.sparse.specs.Limits.{none, max_entries}
 use Rattle.sparse.specs.Matrix.{column, column_or, Shaped, RowsBelow}
-use Rattle.sparse.proofs.Matrix.{column_beyond}
+use Rattle.sparse.proofs.Matrix.{column_beyond, inside}
+use Rattle.sparse.specs.Refusals.{as_column}
+use Rattle.std.specs.Prelude.{Some, None}
 use Rattle.matching.specs.Matching.{search, accepted, refused, match_from, matching}
 use Rattle.matching.specs.Parts.{Fresh, EndsAt, SameBeyond}
 use Rattle.matching.specs.Search.{stamped, Cheap, is_found, moved, SearchEnds}
 use Rattle.matching.proofs.Front.{agree_take, search_agree, take-moved, drop-moved}
 use Rattle.matching.proofs.Matching.{match_found, match_failed}
-use Rattle.matching.proofs.Ready.{inside_or, short_or}
+use Rattle.matching.proofs.Ready.{column_short}
 use Rattle.matching.proofs.Searching.{visited_below}
 use Rattle.matching.proofs.Stamps.{set_keeps, stamped_is, Kept, kept_start}
 
@@ -196,7 +198,7 @@ going_more {n} {col} {c} {v = v} {m = m} {v' = v'} G l M = record {
 -- where it failed, that is the rule's verdict, and the stamp tells the columns it visited
 pub going_failed : {n : ℕ} {col : Pattern} {c : Col} {v₀ h₀ s₀ a₀ m₀ v h s a m v' h' s' a' m' : List ℕ}
     → Going n col c v₀ h₀ s₀ a₀ m₀ v h s a m → c < n → Made n col c v h s a m v' h' s' a' m' false
-    → EndsAt n v' m' c (matching n col)
+    → EndsAt n v' m' (Some (as_column c)) (matching n col)
 going_failed {n} {col} {c} {v = v} {m = m} {v' = v'} {m' = m'} G l M = rw verdict (refl, l, stamp)
   where
     f : (search n col (take n m) n [] c).ending ≡ failed
@@ -223,25 +225,19 @@ going_failed {n} {col} {c} {v = v} {m = m} {v' = v'} {m' = m'} G l M = rw verdic
 
 -- after the last the matching stands in the slice
 pub going_end : {n : ℕ} {col : Pattern} {c : Col} {v₀ h₀ s₀ a₀ m₀ v h s a m : List ℕ}
-    → Going n col c v₀ h₀ s₀ a₀ m₀ v h s a m → n ≤ c → EndsAt n v m n (matching n col)
+    → Going n col c v₀ h₀ s₀ a₀ m₀ v h s a m → n ≤ c → EndsAt n v m None (matching n col)
 unfolding match_from
 going_end {n} {col} {c} {m = m} G l =
     let z : n - c ≡ 0 = omega arith in
     let w : match_from n col (n - c) c (take n m) ≡ accepted (take n m) = ap (λ (x : ℕ). match_from n col x c (take n m)) z in
-    rw (sym G.leads, w) (refl, refl)
+    rw (sym G.leads, w) refl
 
--- ---- in storage, with no column replaced
+-- ---- in storage
 
 pub searches_start : {size : ℕ} {starts rows visited cheap scol sat row2col : List ℕ} → Shaped size starts rows → RowsBelow rows size
     → Fresh size visited cheap scol sat row2col
-    → Going size (column_or starts rows none []) 0 visited cheap scol sat row2col visited cheap scol sat row2col
-searches_start S low F = going_start (inside_or none [] S low (λ k l. absurd (omega arith)) (inr refl)) (short_or none [] S (omega
-    arith)) F
-
-pub ends_unedited : {size : ℕ} {starts rows : List ℕ} (visited row2col : List ℕ) (r : ℕ) → Shaped size starts rows
-    → EndsAt size visited row2col r (matching size (column_or starts rows none [])) → EndsAt size visited row2col r (matching size
-    (column starts rows))
-ends_unedited {size} visited row2col r S E = subst (λ col. EndsAt size visited row2col r (matching size col)) (unedited [] S refl) E
+    → Going size (column starts rows) 0 visited cheap scol sat row2col visited cheap scol sat row2col
+searches_start S low F = going_start (inside S low) (column_short S) F
 
 -- what stands beyond n of the matching, and then of workspace and stack, is as it was
 pub slices_beyond : {n : ℕ} {v₀ h₀ s₀ a₀ m₀ v h s a m : List ℕ} → Slices n v₀ h₀ s₀ a₀ m₀ v h s a m

@@ -1,6 +1,6 @@
 -- Each exit of `find_diag_matching`: what it returns and leaves is the outcome, and has the meaning.
 use Prim.Native.Nat.{ℕ, ◌+◌, ◌<◌, ◌≤◌}
-use mathlib.Core.Path.{◌≡◌, refl, ap, ◌∙◌}
+use mathlib.Core.Path.{◌≡◌, refl, sym, ap, ◌∙◌}
 use mathlib.Core.Bool.{Bool, true, false}
 use mathlib.Core.List.{List, ◌++◌}
 use mathlib.Core.Logic.{◌⊎◌, inl, inr}
@@ -8,6 +8,7 @@ use native.Mathlib.Omega.{arith}
 use lib.Dec.{eqb}
 use lib.ListN.{length, get_or, take, drop, replicate, length-replicate}
 use lib.Seq.{drop_at, take_at}
+use Rattle.std.specs.Prelude.{Option, Some, None, IfSome, Ok, Err}
 use Rattle.graph.specs.Counting.{bit}
 use Rattle.graph.specs.Lists.{elem, table}
 use Rattle.graph.specs.Matchings.{Row, Col, Pattern, partner}
@@ -18,62 +19,63 @@ use Rattle.sparse.specs.Buffers.{zeroed, filled}
 use Rattle.sparse.specs.Limits.{none, max_size}
 use Rattle.sparse.specs.Matrix.{column}
 use Rattle.sparse.specs.Parts.{ZeroBelow}
-use Rattle.sparse.specs.Refusals.{first_refusal, early, Roomy, repeated_row}
-use Rattle.sparse.specs.declared.Checked.{Checked}
-use Rattle.sparse.specs.declared.Checked.TheVariants as checked
-use Rattle.sparse.specs.declared.Refusal.{Refusal}
+use Rattle.sparse.specs.Refusals.{Checked, passed, number, as_column, first_refusal, early, Roomy, repeated_row}
+use Rattle.sparse.specs.declared.Column.{Column}
+use Rattle.sparse.specs.declared.refusal.Refusal.{Refusal}
+use Rattle.sparse.specs.declared.refusal.Refusal.TheVariants.{Unmatchable}
 use Rattle.sparse.proofs.Buffers.{filled_at, front_filled, zero_below}
 use Rattle.sparse.proofs.Early.{Early, early_passed, early_passes, early_number, repeats_number}
 use Rattle.sparse.proofs.Matrix.{inside, column_once}
 use Rattle.sparse.proofs.Passing.{repeats_pass}
 use Rattle.matching.specs.Matching.{Verdict, accepted, refused, matching}
-use Rattle.matching.specs.Outcome.{Lent, lent, matching_need, buffers, cleared, Outcome, ended, unmatchable}
+use Rattle.matching.specs.Outcome.{Lent, lent, matching_need, buffers, cleared, Outcome, ended}
 use Rattle.matching.specs.Outcome.{marks_of}
-use Rattle.matching.specs.Outcome.{handed_out, outcome, Given, HallMarks, Means}
+use Rattle.matching.specs.Outcome.{handed_out, tested, outcome, Given, HallMarks, Means}
 use Rattle.matching.specs.Parts.{Fresh, EndsAt, SameBeyond}
-use Rattle.matching.specs.declared.diagonal.MatchingAnswer.{MatchingAnswer}
-use Rattle.matching.specs.declared.diagonal.MatchingAnswer.TheVariants.{Accepted, Refused}
 use Rattle.matching.proofs.Matching.{Deficient, Decides, matching_decides}
 
 -- ---- what passed checks say
 
 -- what passes is given, and what is given passes
 pub given : {size : ℕ} {starts : List ℕ} {rows : List Row} {l : Lent} → Early size starts rows (buffers size l)
-    → repeated_row size starts rows ≡ checked.Passed → Given size starts rows l
+    → repeated_row size starts rows ≡ passed → Given size starts rows l
 given P e = record {
   valid = record { shaped = P.shaped; below = P.below; once = λ c l. column_once P.shaped e c };
   room = P.room;
 }
 
 pub given_early : {size : ℕ} {starts : List ℕ} {rows : List Row} {l : Lent} → Given size starts rows l
-    → first_refusal (early size starts rows (buffers size l)) ≡ checked.Passed
+    → first_refusal (early size starts rows (buffers size l)) ≡ passed
 given_early {size} {l = l} G = early_passes (buffers size l) G.valid.shaped G.valid.below G.room
 
 pub given_once : {size : ℕ} {starts : List ℕ} {rows : List Row} {l : Lent} → Given size starts rows l
-    → repeated_row size starts rows ≡ checked.Passed
+    → repeated_row size starts rows ≡ passed
 given_once G = repeats_pass G.valid.shaped G.valid.once
 
 -- ---- the exits of the outcome
 
 -- refused by 1, 2, 5 or 3: nothing has changed
 pub early_outcome : (size : ℕ) (starts : List ℕ) (rows : List Row) (l : Lent) (r : Refusal)
-    → first_refusal (early size starts rows (buffers size l)) ≡ checked.Refused r → ended (Refused r) l ≡ outcome size starts rows l
+    → first_refusal (early size starts rows (buffers size l)) ≡ Err r → ended (Err r) l ≡ outcome size starts rows l
 unfolding outcome
 early_outcome size starts rows l r e = rw e
 
--- refused by 4: workspace and stack are zero
-pub repeat_outcome : (size : ℕ) (starts : List ℕ) (rows : List Row) (l : Lent) (r : Refusal)
-    → first_refusal (early size starts rows (buffers size l)) ≡ checked.Passed → repeated_row size starts rows ≡ checked.Refused r
-    → ended (Refused r) (cleared size l l.row2col l.hall) ≡ outcome size starts rows l
+-- else what is tested further decides
+pub tested_outcome : (size : ℕ) (starts : List ℕ) (rows : List Row) (l : Lent)
+    → first_refusal (early size starts rows (buffers size l)) ≡ passed → tested size starts rows l ≡ outcome size starts rows l
 unfolding outcome
-repeat_outcome size starts rows l r p e = rw (p, e)
+tested_outcome size starts rows l p = rw p
 
--- else the verdict is handed out
-pub verdict_outcome : (size : ℕ) (starts : List ℕ) (rows : List Row) (l : Lent)
-    → first_refusal (early size starts rows (buffers size l)) ≡ checked.Passed → repeated_row size starts rows ≡ checked.Passed
-    → handed_out size l (matching size (column starts rows)) ≡ outcome size starts rows l
-unfolding outcome
-verdict_outcome size starts rows l p e = rw (p, e)
+-- refused by 4: the outputs are as they were
+pub tested_refused : (size : ℕ) (starts : List ℕ) (rows : List Row) (l : Lent) (r : Refusal) {row2col hall : List ℕ}
+    → repeated_row size starts rows ≡ Err r → l.row2col ≡ row2col → l.hall ≡ hall
+    → ended (Err r) (cleared size l row2col hall) ≡ tested size starts rows l
+tested_refused size starts rows l r e f g = rw (e, f, g)
+
+-- passed by it: the verdict is handed out
+pub tested_passed : (size : ℕ) (starts : List ℕ) (rows : List Row) (l : Lent) → repeated_row size starts rows ≡ passed
+    → handed_out size l (matching size (column starts rows)) ≡ tested size starts rows l
+tested_passed size starts rows l e = rw e
 
 -- ---- the workspace
 
@@ -119,37 +121,45 @@ fresh size l {cheap} {row2col} R z e f k j = record {
 
 -- ---- the outputs
 
+-- a column whose search failed is one
+pub failed_below : (n : ℕ) (visited row2col : List ℕ) (failed : Option Column) (v : Verdict)
+    → EndsAt n visited row2col failed v → IfSome failed (λ c. c.0 < n)
+failed_below n visited row2col None v E = tt
+failed_below n visited row2col (Some c) (accepted m) E = absurd E
+failed_below n visited row2col (Some c) (refused d seen) E = omega (arith, E.0, E.1)
+
 -- accepted: the slice is the one lent, filled with the matching
-pub hand_accepted : (size end : ℕ) (visited row2col hall hall' : List ℕ) (l : Lent) (v : Verdict) → size ≤ length row2col → size ≤ end
-    → EndsAt size visited row2col end v → SameBeyond size l.row2col row2col → hall ≡ l.hall → hall' ≡ zeroed size hall
-    → ended Accepted (cleared size l row2col hall') ≡ handed_out size l v
-hand_accepted size end visited row2col hall hall' l (accepted m) long e E same k h =
-    rw (h, k, front_filled size m l.row2col row2col long E.1 same)
-hand_accepted size end visited row2col hall hall' l (refused c seen) long e E same k h = absurd (omega (arith, E.0, E.1))
+pub hand_accepted : (size : ℕ) (visited row2col hall hall' : List ℕ) (l : Lent) (v : Verdict) → size ≤ length row2col
+    → EndsAt size visited row2col None v → SameBeyond size l.row2col row2col → hall ≡ l.hall → hall' ≡ zeroed size hall
+    → ended passed (cleared size l row2col hall') ≡ handed_out size l v
+hand_accepted size visited row2col hall hall' l (accepted m) long E same k h =
+    rw (h, k, front_filled size m l.row2col row2col long E same)
+hand_accepted size visited row2col hall hall' l (refused c seen) long E same k h = absurd E
 
 -- refused: the matching is zero, and the stamps tell the marks
-pub hand_refused : (size end : ℕ) (visited row2col row2col' hall hall' : List ℕ) (l : Lent) (v : Verdict) → end < size
-    → EndsAt size visited row2col end v → SameBeyond size l.row2col row2col → row2col' ≡ zeroed size row2col
-    → hall ≡ l.hall → hall' ≡ filled (table (λ c. bit (eqb (get_or visited c 0) (end + 1))) size) hall
-    → ended (unmatchable end) (cleared size l row2col' hall') ≡ handed_out size l v
+pub hand_refused : (size : ℕ) (failed : Column) (visited row2col row2col' hall hall' : List ℕ) (l : Lent) (v : Verdict)
+    → EndsAt size visited row2col (Some failed) v → SameBeyond size l.row2col row2col → row2col' ≡ zeroed size row2col
+    → hall ≡ l.hall → hall' ≡ filled (table (λ c. bit (eqb (get_or visited c 0) (failed.0 + 1))) size) hall
+    → ended (Err (Unmatchable failed)) (cleared size l row2col' hall') ≡ handed_out size l v
 unfolding marks_of
-hand_refused size end visited row2col row2col' hall hall' l (accepted m) e E same g k h = absurd (omega (arith, E.0))
-hand_refused size end visited row2col row2col' hall hall' l (refused c seen) e E same g k h =
-    let marks : table (λ d. bit (eqb (get_or visited d 0) (end + 1))) size ≡ table (λ d. bit (elem d seen)) size =
+hand_refused size failed visited row2col row2col' hall hall' l (accepted m) E same g k h = absurd E
+hand_refused size failed visited row2col row2col' hall hall' l (refused c seen) E same g k h =
+    let marks : table (λ d. bit (eqb (get_or visited d 0) (failed.0 + 1))) size ≡ table (λ d. bit (elem d seen)) size =
     table_ext _ _ size (λ d j. ap bit (ap (λ (x : ℕ). eqb (get_or visited d 0) (x + 1)) E.0 ∙ E.2 d j)) in
-    rw (h, k, marks, g, zeroed_same size l.row2col row2col same, E.0)
+    let at : Unmatchable failed ≡ Unmatchable (as_column c) = ap (λ x. Unmatchable (as_column x)) E.0 in
+    rw (h, k, marks, g, zeroed_same size l.row2col row2col same, at)
 
 -- ---- the meaning
 
-not_both : (x : Checked) (r : Refusal) → x ≡ checked.Passed → x ≡ checked.Refused r → ⊥
+not_both : (x : Checked) (r : Refusal) → x ≡ passed → x ≡ Err r → ⊥
 not_both x r e f = let z : ◌≡◌ {A = ℕ} 0 1 = cc in omega arith
 
-not_accepted : (r : Refusal) → Refused r ≡ Accepted → ⊥
+not_accepted : (r : Refusal) → ◌≡◌ {A = Checked} (Err r) passed → ⊥
 not_accepted r e = let z : ◌≡◌ {A = ℕ} 0 1 = cc in omega arith
 
 -- a refusal of the matrix or of the room, which is not 9
 refused_means : (size : ℕ) (starts : List ℕ) (rows : List Row) (l after : Lent) (r : Refusal) → (¬ Given size starts rows l)
-    → r.number ≤ 5 → Means size starts rows l after (Refused r)
+    → number r ≤ 5 → Means size starts rows l after (Err r)
 refused_means size starts rows l after r never few = record {
   accepted_exactly = (λ a. absurd (not_accepted r a), λ t. absurd (never t.0));
   perfect = λ a. absurd (not_accepted r a);
@@ -157,13 +167,13 @@ refused_means size starts rows l after r never few = record {
   deficient = λ e. absurd (omega arith);
 }
 
-pub early_means : (size : ℕ) (starts : List ℕ) (rows : List Row) (l after : Lent) (r : Refusal)
-    → first_refusal (early size starts rows (buffers size l)) ≡ checked.Refused r → Means size starts rows l after (Refused r)
+early_means : (size : ℕ) (starts : List ℕ) (rows : List Row) (l after : Lent) (r : Refusal)
+    → first_refusal (early size starts rows (buffers size l)) ≡ Err r → Means size starts rows l after (Err r)
 early_means size starts rows l after r e =
     refused_means size starts rows l after r (λ G. not_both _ r (given_early G) e) (early_number size starts rows (buffers size l) r e)
 
-pub repeat_means : (size : ℕ) (starts : List ℕ) (rows : List Row) (l after : Lent) (r : Refusal)
-    → repeated_row size starts rows ≡ checked.Refused r → Means size starts rows l after (Refused r)
+repeat_means : (size : ℕ) (starts : List ℕ) (rows : List Row) (l after : Lent) (r : Refusal)
+    → repeated_row size starts rows ≡ Err r → Means size starts rows l after (Err r)
 repeat_means size starts rows l after r e =
     refused_means size starts rows l after r (λ G. not_both _ r (given_once G) e) (omega (arith, repeats_number size starts rows r e))
 
@@ -213,8 +223,8 @@ handed_means size starts rows l (refused c seen) G D = record {
 small_none : {n : ℕ} → n ≤ max_size → n ≤ none
 small_none l = omega arith
 
-pub verdict_means : (size : ℕ) (starts : List ℕ) (rows : List Row) (l after : Lent) (answer : MatchingAnswer)
-    → first_refusal (early size starts rows (buffers size l)) ≡ checked.Passed → repeated_row size starts rows ≡ checked.Passed
+verdict_means : (size : ℕ) (starts : List ℕ) (rows : List Row) (l after : Lent) (answer : Checked)
+    → first_refusal (early size starts rows (buffers size l)) ≡ passed → repeated_row size starts rows ≡ passed
     → ended answer after ≡ handed_out size l (matching size (column starts rows)) → Means size starts rows l after answer
 verdict_means size starts rows l after answer p e f =
     let P = early_passed size starts rows (buffers size l) p in
@@ -223,3 +233,20 @@ verdict_means size starts rows l after answer p e f =
     let a : after ≡ (handed_out size l (matching size (column starts rows))).after = ap (λ (o : Outcome). o.after) f in
     let b : answer ≡ (handed_out size l (matching size (column starts rows))).answer = ap (λ (o : Outcome). o.answer) f in
     rw (a, b) (handed_means size starts rows l (matching size (column starts rows)) G D)
+
+-- so whatever is the outcome has the meaning
+pub outcome_means : (size : ℕ) (starts : List ℕ) (rows : List Row) (l after : Lent) (answer : Checked)
+    → ended answer after ≡ outcome size starts rows l → Means size starts rows l after answer
+outcome_means size starts rows l after answer f =
+    go (first_refusal (early size starts rows (buffers size l))) refl (repeated_row size starts rows) refl
+  where
+    go : (x : Checked) → first_refusal (early size starts rows (buffers size l)) ≡ x → (y : Checked) → repeated_row size starts rows ≡ y
+        → Means size starts rows l after answer
+    go (Err r) e y g =
+        rw (ap (λ (o : Outcome). o.answer) (f ∙ sym (early_outcome size starts rows l r e))) (early_means size starts rows l after r e)
+    go (Ok u) e (Err r) g =
+        rw (ap (λ (o : Outcome). o.answer) (f ∙ sym (tested_outcome size starts rows l e)
+        ∙ sym (tested_refused size starts rows l r g refl refl))) (repeat_means size starts rows l after r g)
+    go (Ok u) e (Ok t) g =
+        verdict_means size starts rows l after answer e g
+        (f ∙ sym (tested_outcome size starts rows l e) ∙ sym (tested_passed size starts rows l g))

@@ -35,10 +35,14 @@ inside_or {size} {starts} {rows} e new S low below given = record {
 }
 
 -- no column is longer than the largest number of entries
+pub column_short : {size : ℕ} {starts rows : List ℕ} → Shaped size starts rows → (c : Col) → length (column starts rows c) ≤ max_entries
+column_short {size} {starts} {rows} S c = go (dec_lt c size)
+  where
+    go : Dec (c < size) → length (column starts rows c) ≤ max_entries
+    go (yes l) = omega (arith, column_length S c l, column_end S c l, S.few)
+    go (no l) = rw (column_beyond S c (omega arith)) (omega arith)
+
+-- nor one that replaces a column
 pub short_or : {size : ℕ} {starts rows : List ℕ} (e : Col) (new : List Row) → Shaped size starts rows → length new ≤ max_entries
     → (c : Col) → length (column_or starts rows e new c) ≤ max_entries
-short_or {size} {starts} {rows} e new S few = columns (λ c rs. length rs ≤ max_entries) starts rows e new few (λ c. go c (dec_lt c size))
-  where
-    go : (c : Col) → Dec (c < size) → length (column starts rows c) ≤ max_entries
-    go c (yes l) = omega (arith, column_length S c l, column_end S c l, S.few)
-    go c (no l) = rw (column_beyond S c (omega arith)) (omega arith)
+short_or {size} {starts} {rows} e new S few = columns (λ c rs. length rs ≤ max_entries) starts rows e new few (column_short S)

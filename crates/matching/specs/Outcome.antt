@@ -1,16 +1,16 @@
 -- The entry `find_diag_matching`: what it is lent, what it leaves in every buffer for any input, and what that means.
-use Rattle.std.specs.Prelude.{ℕ, ◌<◌, ◌≡◌, List, [], ◌∷◌, ◌↔◌, ◌⊎◌, eqb, length, get_or}
+use Rattle.std.specs.Prelude.{ℕ, ◌<◌, ◌≡◌, List, [], ◌∷◌, Err, ◌↔◌, ◌⊎◌, eqb, length, get_or}
 use Rattle.graph.specs.Counting.{bit}
 use Rattle.graph.specs.Lists.{elem, table}
 use Rattle.graph.specs.Matchings.{Col, Row, Pattern, Perfect, partner}
 use Rattle.graph.specs.Hall.{HallSet}
 use Rattle.sparse.specs.Matrix.{column, Valid}
 use Rattle.sparse.specs.Buffers.{zeroed, filled}
-use Rattle.sparse.specs.Refusals.{first_refusal, on_check, Buffer, buffer, Roomy, early, repeated_row}
-use Rattle.sparse.specs.declared.Refusal.{Refusal}
+use Rattle.sparse.specs.Refusals.{Checked, passed, as_column, number_of, place_of, first_refusal, on_check}
+use Rattle.sparse.specs.Refusals.{Buffer, buffer, Roomy, early, repeated_row}
+use Rattle.sparse.specs.declared.refusal.Refusal.{Refusal}
+use Rattle.sparse.specs.declared.refusal.Refusal.TheVariants.{Unmatchable}
 use Rattle.matching.specs.Matching.{Verdict, accepted, refused, matching, Matchable}
-use Rattle.matching.specs.declared.diagonal.MatchingAnswer.{MatchingAnswer}
-use Rattle.matching.specs.declared.diagonal.MatchingAnswer.TheVariants.{Accepted, Refused}
 
 -- ---- the lent buffers
 
@@ -48,24 +48,15 @@ cleared size l row2col hall =
 
 -- an answer, and every buffer afterwards
 pub record Outcome : Type 0 where
-  pub answer : MatchingAnswer
+  pub answer : Checked
   pub after : Lent
 
-abbrev pub ended : MatchingAnswer → Lent → Outcome
+abbrev pub ended : Checked → Lent → Outcome
 ended answer after = record { answer = answer; after = after }
 
--- the table's number and place of an answer
-abbrev pub number_of : MatchingAnswer → ℕ
-number_of Accepted = 0
-number_of (Refused r) = r.number
-
-abbrev pub place_of : MatchingAnswer → ℕ
-place_of Accepted = 0
-place_of (Refused r) = r.place
-
 -- 9: no perfect matching, at the column whose search failed
-abbrev pub unmatchable : Col → MatchingAnswer
-unmatchable c = Refused (record { number = 9; place = c })
+abbrev pub unmatchable : Col → Checked
+unmatchable c = Err (Unmatchable (as_column c))
 
 -- by column 1 for a member of the list, else 0
 unfoldable pub marks_of : ℕ → List Col → List ℕ
@@ -73,16 +64,20 @@ marks_of size members = table (λ c. bit (elem c members)) size
 
 -- accepted: the matching, and no marks; refused 9: no matching, and the visited columns marked
 abbrev pub handed_out : ℕ → Lent → Verdict → Outcome
-handed_out size l (accepted m) = ended Accepted (cleared size l (filled m l.row2col) (zeroed size l.hall))
+handed_out size l (accepted m) = ended passed (cleared size l (filled m l.row2col) (zeroed size l.hall))
 handed_out size l (refused c visited) =
     ended (unmatchable c) (cleared size l (zeroed size l.row2col) (filled (marks_of size visited) l.hall))
 
--- for any input: 1, 2, 5 and 3 change nothing; 4 leaves workspace and stack zero; else the rule's verdict is handed out
+-- 4 leaves workspace and stack zero; else the rule's verdict is handed out
+abbrev pub tested : ℕ → List ℕ → List Row → Lent → Outcome
+tested size starts rows l =
+    on_check (repeated_row size starts rows) (λ (r : Refusal). ended (Err r) (cleared size l l.row2col l.hall))
+    (handed_out size l (matching size (column starts rows)))
+
+-- for any input: 1, 2, 5 and 3 change nothing; else what is tested further decides
 unfoldable pub outcome : ℕ → List ℕ → List Row → Lent → Outcome
 outcome size starts rows l =
-    on_check (first_refusal (early size starts rows (buffers size l))) (λ (r : Refusal). ended (Refused r) l)
-    (on_check (repeated_row size starts rows) (λ (r : Refusal). ended (Refused r) (cleared size l l.row2col l.hall))
-    (handed_out size l (matching size (column starts rows))))
+    on_check (first_refusal (early size starts rows (buffers size l))) (λ (r : Refusal). ended (Err r) l) (tested size starts rows l)
 
 -- ---- the meaning
 
@@ -99,8 +94,8 @@ pub record HallMarks (n : ℕ) (col : Pattern) (c : Col) (marks : List ℕ) : Ty
   pub hall_set : HallSet n col (λ d. eqb (get_or marks d 0) 1)
 
 -- accepted exactly if there is a perfect matching, and then row2col is one; 9 exactly if there is none, and then the marks are a Hall set
-pub record Means (size : ℕ) (starts : List ℕ) (rows : List Row) (l after : Lent) (answer : MatchingAnswer) : Type 0 where
-  pub accepted_exactly : (answer ≡ Accepted) ↔ (Given size starts rows l × Matchable size (column starts rows))
-  pub perfect : answer ≡ Accepted → Perfect size (column starts rows) (partner after.row2col)
+pub record Means (size : ℕ) (starts : List ℕ) (rows : List Row) (l after : Lent) (answer : Checked) : Type 0 where
+  pub accepted_exactly : (answer ≡ passed) ↔ (Given size starts rows l × Matchable size (column starts rows))
+  pub perfect : answer ≡ passed → Perfect size (column starts rows) (partner after.row2col)
   pub refused_exactly : (number_of answer ≡ 9) ↔ (Given size starts rows l × (¬ Matchable size (column starts rows)))
   pub deficient : number_of answer ≡ 9 → HallMarks size (column starts rows) (place_of answer) after.hall

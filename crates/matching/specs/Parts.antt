@@ -1,10 +1,12 @@
 -- What the parts of the matching say to one another: where a scan of a column's rows stops, how a search goes on from there,
 -- and how all of them end. Scans and steps serve the walks of the block form too.
-use Rattle.std.specs.Prelude.{ℕ, ◌+◌, ◌≤◌, ◌<◌, ◌≡◌, ◌≢◌, List, eqb, length, get_or, set, take, drop, replicate}
+use Rattle.std.specs.Prelude.{ℕ, ◌+◌, ◌≤◌, ◌<◌, ◌≡◌, ◌≢◌, List, Option, Some, None}
+use Rattle.std.specs.Prelude.{eqb, length, get_or, set, take, drop, replicate}
 use Rattle.graph.specs.Lists.{elem}
 use Rattle.graph.specs.Matchings.{Row, Col, partner}
 use Rattle.sparse.specs.Limits.{none}
 use Rattle.sparse.specs.Parts.{ZeroBelow}
+use Rattle.sparse.specs.declared.Column.{Column}
 use Rattle.matching.specs.Matching.{Verdict, accepted, refused}
 
 -- the column that has the row at place k
@@ -36,11 +38,13 @@ pub record Fresh (n : ℕ) (visited cheap scol sat row2col : List ℕ) : Type 0 
   pub places_long : n ≤ length sat
   pub matching_long : n ≤ length row2col
 
--- how the searches end with a verdict: at n, with the matching; or at the column that failed, whose stamp the visited columns have
-abbrev pub EndsAt : ℕ → List ℕ → List Col → ℕ → Verdict → Type 0
-EndsAt n visited row2col r (accepted m) = (r ≡ n) × (take n row2col ≡ m)
-EndsAt n visited row2col r (refused c seen) =
-    (r ≡ c) × (c < n) × ((d : Col) → d < n → eqb (get_or visited d 0) (c + 1) ≡ elem d seen)
+-- how the searches end with a verdict: none failed, with the matching; or one did, with its column, whose stamp the visited columns have
+abbrev pub EndsAt : ℕ → List ℕ → List Col → Option Column → Verdict → Type 0
+EndsAt n visited row2col None (accepted m) = take n row2col ≡ m
+EndsAt n visited row2col None (refused c seen) = ⊥
+EndsAt n visited row2col (Some failed) (accepted m) = ⊥
+EndsAt n visited row2col (Some failed) (refused c seen) =
+    (failed.0 ≡ c) × (c < n) × ((d : Col) → d < n → eqb (get_or visited d 0) (c + 1) ≡ elem d seen)
 
 -- a slice is as it was beyond its first n
 abbrev pub SameBeyond : ℕ → List ℕ → List ℕ → Type 0

@@ -1,26 +1,20 @@
 // One row for each column, so that the matched entries could stand on a diagonal: a search from every column in turn.
-ghost use Rattle.std.specs.Prelude.{◌≡◌, List, ℕ, ◌≤◌, eqb, length, get_or};
+ghost use Rattle.std.specs.Prelude.{◌≡◌, List, Option, ℕ, ◌≤◌, ◌<◌, eqb, length, get_or, IfSome};
 ghost use Rattle.graph.specs.Counting.{bit};
 ghost use Rattle.graph.specs.Lists.{table};
 ghost use Rattle.sparse.specs.Buffers.{zeroed, filled};
+ghost use Rattle.sparse.specs.Columns.{columns};
 ghost use Rattle.sparse.specs.Limits.{max_size};
-ghost use Rattle.sparse.specs.Matrix.{column, Shaped, RowsBelow};
 ghost use Rattle.sparse.specs.Parts.{ZeroBelow};
 ghost use Rattle.sparse.specs.Refusals.{one_short, Roomy};
 ghost use Rattle.matching.specs.Matching.{Verdict, matching};
-ghost use Rattle.matching.specs.Outcome.{Lent, lent, buffers, matching_need, cleared, handed_out, outcome, ended, Means};
+ghost use Rattle.matching.specs.Outcome.{Lent, lent, buffers, matching_need, cleared, handed_out, tested, outcome, ended, Means};
 ghost use Rattle.matching.specs.Parts.{Fresh, EndsAt, SameBeyond};
 
 use super::search::search;
-use sparse::checks::{check_early, check_repeats, is_short};
-use sparse::slices::{by_column, clear, fill, put_by_column};
-use sparse::{Checked, Column, NONE, Refusal};
-
-#[derive(Clone, Copy)]
-pub enum MatchingAnswer {
-    Accepted,
-    Refused(Refusal),
-}
+use sparse::checks::{check_early, check_repeats};
+use sparse::slices::{clear, fill, get, put};
+use sparse::{Column, EditedMat, NONE, Refusal, SquareMat};
 
 // How many numbers the matching needs of each of its two workspace slices.
 pub fn matching_need(size: u32) -> u32
@@ -42,54 +36,43 @@ fn lacks_room(
     ensures { result ≡ one_short (buffers size (lent visited.now cheap.now scol.now sat.now
         row2col.now hall.now)) }
 {
-    let need = matching_need(size);
-    is_short(visited.len(), need)
-        | is_short(cheap.len(), need)
-        | is_short(scol.len(), size)
-        | is_short(sat.len(), size)
-        | is_short(row2col.len(), size)
-        | is_short(hall.len(), size)
+    let need = matching_need(size) as usize;
+    let size = size as usize;
+    (visited.len() < need)
+        | (cheap.len() < need)
+        | (scol.len() < size)
+        | (sat.len() < size)
+        | (row2col.len() < size)
+        | (hall.len() < size)
 }
 
-// A search from each column in turn. The first column whose search failed, or the size. A stamp of its own tells each search's visits
+// A search from each column in turn: the first column whose search failed, if one did. A stamp of its own tells each search's visits
 // from earlier ones, so nothing is cleared between two.
 fn match_columns(
-    size: u32,
-    starts: &[u32],
-    rows: &[u32],
+    mat: &SquareMat,
     visited: &mut [u32],
     cheap: &mut [u32],
     scol: &mut [u32],
     sat: &mut [u32],
     row2col: &mut [u32],
-) -> u32
-    requires shaped { Shaped size starts.now rows.now × RowsBelow rows.now size }
-    requires fresh { Fresh size visited.old cheap.old scol.old sat.old row2col.old }
-    ensures ends_at { EndsAt size visited.new row2col.new result
-        (matching size (column starts.now rows.now)) }
-    ensures same_beyond { SameBeyond size row2col.old row2col.new }
-    ensures work_beyond { SameBeyond size visited.old visited.new × SameBeyond size cheap.old cheap.new
-        × SameBeyond size scol.old scol.new × SameBeyond size sat.old sat.new }
+) -> Option<Column>
+    requires { Fresh mat.now.mat.size visited.old cheap.old scol.old sat.old row2col.old }
+    ensures ends_at { EndsAt mat.now.mat.size visited.new row2col.new result (matching mat.now.mat.size (columns mat.now.mat)) }
+    ensures same_beyond { SameBeyond mat.now.mat.size row2col.old row2col.new }
+    ensures work_beyond { SameBeyond mat.now.mat.size visited.old visited.new × SameBeyond mat.now.mat.size cheap.old cheap.new
+        × SameBeyond mat.now.mat.size scol.old scol.new × SameBeyond mat.now.mat.size sat.old sat.new }
 {
-    for c in 0..size {
-        if !search(
-            size,
-            starts,
-            rows,
-            Column(NONE),
-            &[],
-            Column(c),
-            c + 1,
-            visited,
-            cheap,
-            scol,
-            sat,
-            row2col,
-        ) {
-            return c;
+    let unedited = EditedMat {
+        mat: mat.mat,
+        edit: None,
+    };
+    for c in 0..mat.mat.size {
+        let col = Column(c);
+        if !search(&unedited, col, c + 1, visited, cheap, scol, sat, row2col) {
+            return Some(col);
         }
     }
-    size
+    None
 }
 
 // Marks the columns that have a stamp, and no others.
@@ -99,60 +82,79 @@ pub fn mark_hall(size: u32, visited: &[u32], stamp: u32, hall: &mut [u32])
 {
     for c in 0..size {
         let col = Column(c);
-        put_by_column(hall, col, u32::from(by_column(visited, col) == stamp));
+        let last: u32 = get(visited, col);
+        put(hall, col, u32::from(last == stamp));
     }
 }
 
-// The answer, and both outputs, from where the searches ended.
+// The answer, and both outputs, from the column whose search failed, if one did.
 fn hand_out(
     size: u32,
-    end: u32,
+    failed: Option<Column>,
     visited: &[u32],
     row2col: &mut [u32],
     hall: &mut [u32],
-) -> MatchingAnswer
-    requires { (size ≤ max_size) × (size ≤ length visited.now) × (size ≤ length row2col.old) × (size ≤ length hall.old) }
-    ensures { (l : Lent) (v : Verdict) → EndsAt size visited.now row2col.old end v
+) -> Result<(), Refusal>
+    requires below { IfSome failed (λ c. c.0 < size) }
+    requires roomy { (size ≤ max_size) × (size ≤ length visited.now) × (size ≤ length row2col.old) × (size ≤ length hall.old) }
+    ensures { (l : Lent) (v : Verdict) → EndsAt size visited.now row2col.old failed v
         → SameBeyond size l.row2col row2col.old → hall.old ≡ l.hall
         → ended result (cleared size l row2col.new hall.new) ≡ handed_out size l v }
 {
-    if end < size {
+    if let Some(c) = failed {
         clear(row2col, size);
-        mark_hall(size, visited, end + 1, hall);
-        return MatchingAnswer::Refused(Refusal {
-            number: 9,
-            place: end,
-        });
+        mark_hall(size, visited, c.0 + 1, hall);
+        return Err(Refusal::Unmatchable(c));
     }
     clear(hall, size);
-    MatchingAnswer::Accepted
+    Ok(())
 }
 
 // The matching of a valid matrix, over stamps that are zero. What the workspace holds afterwards is the caller's to clear.
 pub fn match_valid(
-    size: u32,
-    starts: &[u32],
-    rows: &[u32],
+    mat: &SquareMat,
     visited: &mut [u32],
     cheap: &mut [u32],
     scol: &mut [u32],
     sat: &mut [u32],
     row2col: &mut [u32],
     hall: &mut [u32],
-) -> MatchingAnswer
-    requires shaped { Shaped size starts.now rows.now × RowsBelow rows.now size }
-    requires roomy { Roomy (buffers size (lent visited.old cheap.old scol.old sat.old row2col.old hall.old))
-        × ZeroBelow size visited.old }
+) -> Result<(), Refusal>
+    requires roomy { Roomy (buffers mat.now.mat.size (lent visited.old cheap.old scol.old sat.old row2col.old hall.old)) }
+    requires unmarked { ZeroBelow mat.now.mat.size visited.old }
     ensures hall_after { (l : Lent) → l.row2col ≡ row2col.old → l.hall ≡ hall.old
-        → ended result (cleared size l row2col.new hall.new)
-        ≡ handed_out size l (matching size (column starts.now rows.now)) }
-    ensures same_beyond { SameBeyond size visited.old visited.new × SameBeyond size cheap.old cheap.new
-        × SameBeyond size scol.old scol.new × SameBeyond size sat.old sat.new }
+        → ended result (cleared mat.now.mat.size l row2col.new hall.new)
+        ≡ handed_out mat.now.mat.size l (matching mat.now.mat.size (columns mat.now.mat)) }
+    ensures same_beyond { SameBeyond mat.now.mat.size visited.old visited.new × SameBeyond mat.now.mat.size cheap.old cheap.new
+        × SameBeyond mat.now.mat.size scol.old scol.new × SameBeyond mat.now.mat.size sat.old sat.new }
 {
+    let size = mat.mat.size;
     clear(cheap, size);
     fill(row2col, size, NONE);
-    let end = match_columns(size, starts, rows, visited, cheap, scol, sat, row2col);
-    hand_out(size, end, visited, row2col, hall)
+    let failed = match_columns(mat, visited, cheap, scol, sat, row2col);
+    hand_out(size, failed, visited, row2col, hall)
+}
+
+// Refusal 4, for which the stamps serve as marks, and then the matching.
+fn match_tested(
+    mat: &SquareMat,
+    visited: &mut [u32],
+    cheap: &mut [u32],
+    scol: &mut [u32],
+    sat: &mut [u32],
+    row2col: &mut [u32],
+    hall: &mut [u32],
+) -> Result<(), Refusal>
+    requires roomy { Roomy (buffers mat.now.mat.size (lent visited.old cheap.old scol.old sat.old row2col.old hall.old)) }
+    requires unmarked { ZeroBelow mat.now.mat.size visited.old }
+    ensures hall_after { (l : Lent) → l.row2col ≡ row2col.old → l.hall ≡ hall.old
+        → ended result (cleared mat.now.mat.size l row2col.new hall.new)
+        ≡ tested mat.now.mat.size mat.now.mat.starts.now mat.now.mat.rows.now l }
+    ensures same_beyond { SameBeyond mat.now.mat.size visited.old visited.new × SameBeyond mat.now.mat.size cheap.old cheap.new
+        × SameBeyond mat.now.mat.size scol.old scol.new × SameBeyond mat.now.mat.size sat.old sat.new }
+{
+    check_repeats(mat, visited)?;
+    match_valid(mat, visited, cheap, scol, sat, row2col, hall)
 }
 
 // The workspace and the stack become zero over their needs.
@@ -179,7 +181,7 @@ pub fn find_diag_matching(
     sat: &mut [u32],
     row2col: &mut [u32],
     hall: &mut [u32],
-) -> MatchingAnswer
+) -> Result<(), Refusal>
     ensures outcome { ended result (lent visited.new cheap.new scol.new sat.new
         row2col.new hall.new)
         ≡ outcome size starts.now rows.now (lent visited.old cheap.old scol.old
@@ -189,17 +191,9 @@ pub fn find_diag_matching(
         (lent visited.new cheap.new scol.new sat.new row2col.new hall.new) result }
 {
     let short = lacks_room(size, visited, cheap, scol, sat, row2col, hall);
-    let first = check_early(size, starts, rows, short);
-    if let Checked::Refused(r) = first {
-        return MatchingAnswer::Refused(r);
-    }
+    let mat = check_early(size, starts, rows, short)?;
     clear(visited, size);
-    let second = check_repeats(size, starts, rows, visited);
-    if let Checked::Refused(r) = second {
-        clear_work(size, visited, cheap, scol, sat);
-        return MatchingAnswer::Refused(r);
-    }
-    let answer = match_valid(size, starts, rows, visited, cheap, scol, sat, row2col, hall);
+    let answer = match_tested(&mat, visited, cheap, scol, sat, row2col, hall);
     clear_work(size, visited, cheap, scol, sat);
     answer
 }

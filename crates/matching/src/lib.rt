@@ -4,4 +4,4 @@
 pub mod diagonal;
 pub mod search;
 
-pub use diagonal::{MatchingAnswer, find_diag_matching};
+pub use diagonal::find_diag_matching;

@@ -1,22 +1,21 @@
 // One search of the matching: from a column without a row, along rows and the columns that have them, to a free row.
 ghost use Rattle.std.specs.Prelude.{◌≡◌, ◌≢◌, ℕ, ◌+◌, ◌≤◌, ◌<◌, length, get_or, drop};
+ghost use Rattle.sparse.specs.Columns.{edited_columns};
 ghost use Rattle.sparse.specs.Limits.{max_size, max_entries};
-ghost use Rattle.sparse.specs.Matrix.{column_or, RowsBelow, Shaped};
+ghost use Rattle.sparse.specs.Matrix.{RowsBelow};
 ghost use Rattle.matching.specs.Search.{SearchReady, SearchEnds};
 ghost use Rattle.matching.specs.Parts.{col_at, OpenPlace, Advance};
 
-use sparse::Column;
-use sparse::columns::col_rows;
-use sparse::slices::{
-    by_column, by_row, column_at, get, put, put_by_column, put_by_row, put_column, row_at,
-};
+use sparse::slices::{get, put};
+use sparse::{Column, EditedMat, OriginalRow};
 
 // The column that has the row at a place.
 fn col_at(col: &[u32], row2col: &[u32], k: u32) -> Column
     requires { (k < length col.now) × RowsBelow col.now (length row2col.now) }
     ensures { result.0 ≡ col_at row2col.now col.now k }
 {
-    Column(by_row(row2col, row_at(col, k)))
+    let r: OriginalRow = get(col, k);
+    get(row2col, r)
 }
 
 // The first place of a column's rows, from a place on, whose row's column is not visited; behind the last where there is none.
@@ -27,7 +26,8 @@ pub fn scan_next(col: &[u32], row2col: &[u32], visited: &[u32], mark: u32, from:
 {
     let len = col.len() as u32;
     for k in from..len {
-        if by_column(visited, col_at(col, row2col, k)) != mark {
+        let stamp: u32 = get(visited, col_at(col, row2col, k));
+        if stamp != mark {
             return k;
         }
     }
@@ -57,19 +57,15 @@ pub fn advance(
     let next = scan_next(col, row2col, visited, mark, from);
     if next < col.len() as u32 {
         put(sat, top, next);
-        put_column(scol, top + 1, col_at(col, row2col, next));
+        put(scol, top + 1, col_at(col, row2col, next));
         return top + 2;
     }
     top
 }
 
 // One search from a column that has no row: whether it found a path to a free row, along which the matching is then moved.
-pub fn search<'a>(
-    size: u32,
-    starts: &[u32],
-    rows: &'a [u32],
-    edited: Column,
-    replacement: &'a [u32],
+pub fn search(
+    mat: &EditedMat,
     start: Column,
     mark: u32,
     visited: &mut [u32],
@@ -78,44 +74,51 @@ pub fn search<'a>(
     sat: &mut [u32],
     row2col: &mut [u32],
 ) -> bool
-    requires shaped { Shaped size starts.now rows.now }
-    requires search_ready { SearchReady size (column_or starts.now rows.now edited.0 replacement.now) row2col.old start.0 mark
+    requires { SearchReady mat.now.mat.size (edited_columns mat.now) row2col.old start.0 mark
         visited.old cheap.old scol.old sat.old }
-    ensures search_ends { SearchEnds size (column_or starts.now rows.now edited.0 replacement.now)
+    ensures search_ends { SearchEnds mat.now.mat.size (edited_columns mat.now)
         row2col.old start.0 mark visited.old cheap.old
         visited.new cheap.new row2col.new result }
-    ensures scol_unchanged { (drop size scol.new ≡ drop size scol.old)
-        × (drop size sat.new ≡ drop size sat.old) }
+    ensures scol_unchanged { (drop mat.now.mat.size scol.new ≡ drop mat.now.mat.size scol.old)
+        × (drop mat.now.mat.size sat.new ≡ drop mat.now.mat.size sat.old) }
 {
+    // A copy, so that no step reads it through the reference.
+    let mat = *mat;
+    let size = mat.mat.size;
     let mut found = false;
     let mut depth = 1u32;
-    put_column(scol, 0, start);
+    put(scol, 0, start);
     'dfs_loop: while 0 < depth {
         let top = depth - 1;
-        let c = column_at(scol, top);
-        let col = col_rows(size, starts, rows, edited, replacement, c);
-        if by_column(visited, c) != mark {
-            put_by_column(visited, c, mark);
+        let c: Column = get(scol, top);
+        let col = mat.col_rows(c);
+        let stamp: u32 = get(visited, c);
+        if stamp != mark {
+            put(visited, c, mark);
             // A matched row stays matched, so the scan for a free one starts where this column's last scan stopped.
+            let from: u32 = get(cheap, c);
             let len = col.len() as u32;
-            for k in by_column(cheap, c)..len {
-                let r = row_at(col, k);
-                if size <= by_row(row2col, r) {
-                    put_by_column(cheap, c, k);
-                    put_by_row(row2col, r, c.0);
+            for k in from..len {
+                let r: OriginalRow = get(col, k);
+                let owner: Column = get(row2col, r);
+                if size <= owner.0 {
+                    put(cheap, c, k);
+                    put(row2col, r, c);
                     found = true;
                     depth = top;
                     continue 'dfs_loop;
                 }
             }
-            put_by_column(cheap, c, len);
+            put(cheap, c, len);
             depth = advance(col, row2col, visited, mark, top, 0, scol, sat);
         } else if found {
-            put_by_row(row2col, row_at(col, get(sat, top)), c.0);
+            let at: u32 = get(sat, top);
+            let row: OriginalRow = get(col, at);
+            put(row2col, row, c);
             depth = top;
         } else {
-            let next = get(sat, top) + 1;
-            depth = advance(col, row2col, visited, mark, top, next, scol, sat);
+            let at: u32 = get(sat, top);
+            depth = advance(col, row2col, visited, mark, top, at + 1, scol, sat);
         }
     }
     found

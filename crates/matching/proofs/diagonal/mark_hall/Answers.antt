@@ -10,4 +10,4 @@ loop-c-init c = refl
 
 pub loop-c-preserved : goal.loop-c-preserved
 loop-c-preserved c =
-    marked_more _ _ _ (omega (arith, c.requires.1)) c.loop-c.invariant c.by_column.ensures c.from.ensures c.put_by_column.ensures
+    marked_more _ _ _ (omega (arith, c.requires.1)) c.loop-c.invariant c.get-last.ensures c.from.ensures c.put.ensures

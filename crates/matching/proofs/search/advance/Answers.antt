@@ -3,8 +3,8 @@ use Rattle.matching.specs.Parts.{back, down}
 use native.Mathlib.Omega.{arith}
 use Rattle.matching.proofs.search.advance.Goals as goal
 
-pub put_column-requires : goal.put_column-requires
-put_column-requires c =
+pub put-requires-then-next-col : goal.put-requires-then-next-col
+put-requires-then-next-col c =
     omega (
       arith,
       c.requires.top_lt_max_size.2 c.scan_next-next.result (omega arith)
@@ -13,7 +13,7 @@ put_column-requires c =
 
 pub returns-then-next-col : goal.returns-then-next-col
 returns-then-next-col c =
-    rw (c.put_column.ensures, c.put.ensures, c.col_at.ensures) (down
+    rw (c.put-then-next-col.ensures, c.put.ensures, c.col_at.ensures) (down
     c.scan_next-next.result c.scan_next-next.ensures (omega arith))
 
 pub returns : goal.returns

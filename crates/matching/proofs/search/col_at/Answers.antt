@@ -5,10 +5,8 @@ use mathlib.Core.Path.{◌∙◌, ap}
 use native.Mathlib.Omega.{arith}
 use Rattle.matching.proofs.search.col_at.Goals as goal
 
-pub by_row-requires : goal.by_row-requires
-by_row-requires c =
-    omega (arith, c.requires.1 c.args.k c.requires.0)
+pub get-requires : goal.get-requires
+get-requires c = omega (arith, c.get-r.ensures, c.requires.1 c.args.k c.requires.0)
 
 pub returns : goal.returns
-returns c =
-    c.by_row.ensures ∙ ap (λ (r : ℕ). get_or c.args.row2col.now r 0) c.row_at.ensures
+returns c = c.get.ensures ∙ ap (λ (r : ℕ). get_or c.args.row2col.now r 0) c.get-r.ensures

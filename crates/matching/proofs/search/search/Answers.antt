@@ -10,164 +10,165 @@ use Rattle.matching.proofs.search.search.Goals as goal
 
 pub dfs_loop-init : goal.dfs_loop-init
 dfs_loop-init c =
-    walk_begin c.requires.search_ready c.put_column.ensures
+    walk_begin c.requires c.put.ensures
 
-pub column_at-c-requires : goal.column_at-c-requires
-column_at-c-requires c =
+pub get-c-requires : goal.get-c-requires
+get-c-requires c =
     omega (arith, depth_below c.dfs_loop.invariant c.dfs_loop-test.true, c.dfs_loop.invariant.slices.cols_kept.long)
 
 pub col_rows-col-requires : goal.col_rows-col-requires
 col_rows-col-requires c =
-    (c.requires.shaped, column_below c.dfs_loop.invariant c.dfs_loop-test.true c.column_at-c.ensures)
+    column_below c.dfs_loop.invariant c.dfs_loop-test.true c.get-c.ensures
 
-pub by_column-requires : goal.by_column-requires
-by_column-requires c =
-    omega (arith, column_below c.dfs_loop.invariant c.dfs_loop-test.true c.column_at-c.ensures, stamps_reach c.dfs_loop.invariant.slices)
+pub get-stamp-requires : goal.get-stamp-requires
+get-stamp-requires c =
+    omega (arith, column_below c.dfs_loop.invariant c.dfs_loop-test.true c.get-c.ensures, stamps_reach c.dfs_loop.invariant.slices)
 
-pub put_by_column-requires : goal.put_by_column-requires
-put_by_column-requires c =
-    omega (arith, column_below c.dfs_loop.invariant c.dfs_loop-test.true c.column_at-c.ensures, stamps_reach c.dfs_loop.invariant.slices)
+pub put-requires-then-stamp-mark : goal.put-requires-then-stamp-mark
+put-requires-then-stamp-mark c =
+    omega (arith, column_below c.dfs_loop.invariant c.dfs_loop-test.true c.get-c.ensures, stamps_reach c.dfs_loop.invariant.slices)
 
-pub by_column-k-requires : goal.by_column-k-requires
-by_column-k-requires c =
-    omega (arith, column_below c.dfs_loop.invariant c.dfs_loop-test.true c.column_at-c.ensures, c.dfs_loop.invariant.slices.cheap_kept.long)
+pub get-from-requires : goal.get-from-requires
+get-from-requires c =
+    omega (arith, column_below c.dfs_loop.invariant c.dfs_loop-test.true c.get-c.ensures, c.dfs_loop.invariant.slices.cheap_kept.long)
 
-pub by_row-requires : goal.by_row-requires
-by_row-requires c =
+pub get-owner-requires : goal.get-owner-requires
+get-owner-requires c =
     omega (
       arith,
       ap length c.loop-k.invariant.matching_same,
-      c.row_at-r.ensures,
+      c.get-r.ensures,
       rows_below c.dfs_loop.invariant.slices
-          (in_hand _ c.column_at-c.ensures c.col_rows-col.ensures) c.loop-k.k (omega arith),
+          (in_hand _ c.get-c.ensures c.col_rows-col.ensures) c.loop-k.k (omega arith),
     )
 
-pub put_by_column-requires-then-size-by_row : goal.put_by_column-requires-then-size-by_row
-put_by_column-requires-then-size-by_row c =
+pub put-requires-then-size-owner : goal.put-requires-then-size-owner
+put-requires-then-size-owner c =
     omega (
       arith,
-      column_below c.dfs_loop.invariant c.dfs_loop-test.true c.column_at-c.ensures,
+      column_below c.dfs_loop.invariant c.dfs_loop-test.true c.get-c.ensures,
       c.dfs_loop.invariant.slices.cheap_kept.long,
       ap length c.loop-k.invariant.cheap_same,
     )
 
-pub dfs_loop-smaller-then-size-by_row : goal.dfs_loop-smaller-then-size-by_row
-dfs_loop-smaller-then-size-by_row c =
-    fall_free c.dfs_loop.invariant c.dfs_loop-test.true (in_hand _ c.column_at-c.ensures c.col_rows-col.ensures)
-    (λ e. c.if-by_column-mark.true (c.by_column.ensures ∙ e)) c.put_by_column.ensures
+pub dfs_loop-smaller-then-size-owner : goal.dfs_loop-smaller-then-size-owner
+dfs_loop-smaller-then-size-owner c =
+    fall_free c.dfs_loop.invariant c.dfs_loop-test.true (in_hand _ c.get-c.ensures c.col_rows-col.ensures)
+    (λ e. c.if-stamp-mark.true (c.get-stamp.ensures ∙ e)) c.put-then-stamp-mark.ensures
 
-pub dfs_loop-preserved-then-size-by_row : goal.dfs_loop-preserved-then-size-by_row
-dfs_loop-preserved-then-size-by_row c =
-    arm_free c.dfs_loop.invariant c.dfs_loop-test.true (in_hand _ c.column_at-c.ensures c.col_rows-col.ensures)
-    (λ e. c.if-by_column-mark.true (c.by_column.ensures ∙ e)) c.loop-k.invariant c.by_column-k.ensures c.loop-k-test.true
-    c.row_at-r.ensures c.by_row.ensures c.if-size-by_row.true c.put_by_column.ensures c.put_by_column-then-size-by_row.ensures
-    c.put_by_row.ensures
+pub dfs_loop-preserved-then-size-owner : goal.dfs_loop-preserved-then-size-owner
+dfs_loop-preserved-then-size-owner c =
+    arm_free c.dfs_loop.invariant c.dfs_loop-test.true (in_hand _ c.get-c.ensures c.col_rows-col.ensures)
+    (λ e. c.if-stamp-mark.true (c.get-stamp.ensures ∙ e)) c.loop-k.invariant c.get-from.ensures c.loop-k-test.true
+    c.get-r.ensures c.get-owner.ensures c.if-size-owner.true c.put-then-stamp-mark.ensures c.put-then-size-owner.ensures
+    c.put-then-size-owner-2.ensures
 
 pub loop-k-preserved : goal.loop-k-preserved
 loop-k-preserved c =
-    pass_more c.loop-k.invariant c.row_at-r.ensures c.by_row.ensures c.if-size-by_row.false
+    pass_more c.loop-k.invariant c.get-r.ensures c.get-owner.ensures c.if-size-owner.false
 
-pub put_by_column-requires-then-by_column-mark : goal.put_by_column-requires-then-by_column-mark
-put_by_column-requires-then-by_column-mark c =
+pub put-requires-then-stamp-mark-2 : goal.put-requires-then-stamp-mark-2
+put-requires-then-stamp-mark-2 c =
     omega (
       arith,
-      column_below c.dfs_loop.invariant c.dfs_loop-test.true c.column_at-c.ensures,
+      column_below c.dfs_loop.invariant c.dfs_loop-test.true c.get-c.ensures,
       c.dfs_loop.invariant.slices.cheap_kept.long,
       ap length c.loop-k.invariant.cheap_same,
     )
 
 pub advance-depth-requires : goal.advance-depth-requires
 advance-depth-requires c =
-    let R = scan_ready (arm_none c.dfs_loop.invariant c.dfs_loop-test.true (in_hand _ c.column_at-c.ensures c.col_rows-col.ensures)
-    (λ e. c.if-by_column-mark.true (c.by_column.ensures ∙ e)) c.loop-k.invariant c.by_column-k.ensures c.loop-k-test.false
-    c.put_by_column.ensures c.put_by_column-then-by_column-mark.ensures) (in_hand _ c.column_at-c.ensures c.col_rows-col.ensures)
-    c.requires.shaped.small c.requires.search_ready.short in
+    let R = scan_ready (arm_none c.dfs_loop.invariant c.dfs_loop-test.true (in_hand _ c.get-c.ensures c.col_rows-col.ensures)
+    (λ e. c.if-stamp-mark.true (c.get-stamp.ensures ∙ e)) c.loop-k.invariant c.get-from.ensures c.loop-k-test.false
+    c.put-then-stamp-mark.ensures c.put-then-stamp-mark-2.ensures) (in_hand _ c.get-c.ensures c.col_rows-col.ensures)
+    c.args.mat.now.mat.shaped.small c.requires.short in
     record { col_len_bound = R.short; by_index = R.cols; top_lt_max_size = R.room }
 
-pub dfs_loop-smaller-then-by_column-mark : goal.dfs_loop-smaller-then-by_column-mark
-dfs_loop-smaller-then-by_column-mark c =
-    fall_none c.dfs_loop.invariant c.dfs_loop-test.true (in_hand _ c.column_at-c.ensures c.col_rows-col.ensures)
-    (λ e. c.if-by_column-mark.true (c.by_column.ensures ∙ e)) c.put_by_column.ensures
-    (arm_none c.dfs_loop.invariant c.dfs_loop-test.true (in_hand _ c.column_at-c.ensures c.col_rows-col.ensures)
-    (λ e. c.if-by_column-mark.true (c.by_column.ensures ∙ e)) c.loop-k.invariant c.by_column-k.ensures c.loop-k-test.false
-    c.put_by_column.ensures c.put_by_column-then-by_column-mark.ensures) c.advance-depth.ensures
+pub dfs_loop-smaller-then-stamp-mark : goal.dfs_loop-smaller-then-stamp-mark
+dfs_loop-smaller-then-stamp-mark c =
+    fall_none c.dfs_loop.invariant c.dfs_loop-test.true (in_hand _ c.get-c.ensures c.col_rows-col.ensures)
+    (λ e. c.if-stamp-mark.true (c.get-stamp.ensures ∙ e)) c.put-then-stamp-mark.ensures
+    (arm_none c.dfs_loop.invariant c.dfs_loop-test.true (in_hand _ c.get-c.ensures c.col_rows-col.ensures)
+    (λ e. c.if-stamp-mark.true (c.get-stamp.ensures ∙ e)) c.loop-k.invariant c.get-from.ensures c.loop-k-test.false
+    c.put-then-stamp-mark.ensures c.put-then-stamp-mark-2.ensures) c.advance-depth.ensures
 
-pub dfs_loop-preserved-then-by_column-mark : goal.dfs_loop-preserved-then-by_column-mark
-dfs_loop-preserved-then-by_column-mark c =
-    arm_on (arm_none c.dfs_loop.invariant c.dfs_loop-test.true (in_hand _ c.column_at-c.ensures c.col_rows-col.ensures)
-    (λ e. c.if-by_column-mark.true (c.by_column.ensures ∙ e)) c.loop-k.invariant c.by_column-k.ensures c.loop-k-test.false
-    c.put_by_column.ensures c.put_by_column-then-by_column-mark.ensures) (in_hand _ c.column_at-c.ensures c.col_rows-col.ensures)
+pub dfs_loop-preserved-then-stamp-mark : goal.dfs_loop-preserved-then-stamp-mark
+dfs_loop-preserved-then-stamp-mark c =
+    arm_on (arm_none c.dfs_loop.invariant c.dfs_loop-test.true (in_hand _ c.get-c.ensures c.col_rows-col.ensures)
+    (λ e. c.if-stamp-mark.true (c.get-stamp.ensures ∙ e)) c.loop-k.invariant c.get-from.ensures c.loop-k-test.false
+    c.put-then-stamp-mark.ensures c.put-then-stamp-mark-2.ensures) (in_hand _ c.get-c.ensures c.col_rows-col.ensures)
     c.advance-depth.ensures
 
-pub get-requires : goal.get-requires
-get-requires c =
+pub get-at-requires : goal.get-at-requires
+get-at-requires c =
     omega (arith, depth_below c.dfs_loop.invariant c.dfs_loop-test.true, c.dfs_loop.invariant.slices.places_kept.long)
 
-pub row_at-requires : goal.row_at-requires
-row_at-requires c =
+pub get-row-requires : goal.get-row-requires
+get-row-requires c =
     omega (
       arith,
-      c.get.ensures,
+      c.get-at.ensures,
       place_below c.dfs_loop.invariant c.dfs_loop-test.true
-          (in_hand _ c.column_at-c.ensures c.col_rows-col.ensures) (sym c.by_column.ensures ∙ c.if-by_column-mark.false),
+          (in_hand _ c.get-c.ensures c.col_rows-col.ensures) (sym c.get-stamp.ensures ∙ c.if-stamp-mark.false),
     )
 
-pub put_by_row-requires-then-found : goal.put_by_row-requires-then-found
-put_by_row-requires-then-found c =
+pub put-requires-then-found : goal.put-requires-then-found
+put-requires-then-found c =
     omega (
       arith,
-      c.row_at.ensures,
-      rows_below c.dfs_loop.invariant.slices (in_hand _ c.column_at-c.ensures c.col_rows-col.ensures)
-          c.get.result (omega (
+      c.get-row.ensures,
+      rows_below c.dfs_loop.invariant.slices (in_hand _ c.get-c.ensures c.col_rows-col.ensures)
+          c.get-at.result (omega (
             arith,
-            c.get.ensures,
+            c.get-at.ensures,
             place_below c.dfs_loop.invariant c.dfs_loop-test.true
-                (in_hand _ c.column_at-c.ensures c.col_rows-col.ensures) (sym c.by_column.ensures ∙ c.if-by_column-mark.false),
+                (in_hand _ c.get-c.ensures c.col_rows-col.ensures) (sym c.get-stamp.ensures ∙ c.if-stamp-mark.false),
           )),
     )
 
 pub dfs_loop-preserved-then-found : goal.dfs_loop-preserved-then-found
 dfs_loop-preserved-then-found c =
-    arm_back c.dfs_loop.invariant c.dfs_loop-test.true (in_hand _ c.column_at-c.ensures c.col_rows-col.ensures)
-    (sym c.by_column.ensures ∙ c.if-by_column-mark.false) c.if-found.true c.get.ensures c.row_at.ensures
-    c.put_by_row-then-found.ensures
+    arm_back c.dfs_loop.invariant c.dfs_loop-test.true (in_hand _ c.get-c.ensures c.col_rows-col.ensures)
+    (sym c.get-stamp.ensures ∙ c.if-stamp-mark.false) c.if-found.true c.get-at.ensures c.get-row.ensures
+    c.put-then-found.ensures
 
-pub get-next-requires : goal.get-next-requires
-get-next-requires c =
+pub get-at-requires-else-found : goal.get-at-requires-else-found
+get-at-requires-else-found c =
     omega (arith, depth_below c.dfs_loop.invariant c.dfs_loop-test.true, c.dfs_loop.invariant.slices.places_kept.long)
 
-pub overflow_add-next : goal.overflow_add-next
-overflow_add-next c =
+pub overflow_add-at : goal.overflow_add-at
+overflow_add-at c =
     omega (
       arith,
-      c.get-next.ensures,
+      c.get-at-else-found.ensures,
       place_short c.dfs_loop.invariant c.dfs_loop-test.true
-          (in_hand _ c.column_at-c.ensures c.col_rows-col.ensures) (sym c.by_column.ensures ∙ c.if-by_column-mark.false)
-          c.requires.search_ready.short,
+          (in_hand _ c.get-c.ensures c.col_rows-col.ensures) (sym c.get-stamp.ensures ∙ c.if-stamp-mark.false)
+          c.requires.short,
     )
 
 pub advance-depth-requires-else-found : goal.advance-depth-requires-else-found
 advance-depth-requires-else-found c =
-    let R = scan_ready (arm_again {from = c.get-next.result + 1} c.dfs_loop.invariant c.dfs_loop-test.true
-    (in_hand _ c.column_at-c.ensures c.col_rows-col.ensures) (sym c.by_column.ensures ∙ c.if-by_column-mark.false) c.if-found.false
-    (omega (arith, c.get-next.ensures))) (in_hand _ c.column_at-c.ensures c.col_rows-col.ensures) c.requires.shaped.small
-    c.requires.search_ready.short in
+    let R = scan_ready (arm_again {from = c.get-at-else-found.result + 1} c.dfs_loop.invariant c.dfs_loop-test.true
+    (in_hand _ c.get-c.ensures c.col_rows-col.ensures) (sym c.get-stamp.ensures ∙ c.if-stamp-mark.false) c.if-found.false
+    (omega (arith, c.get-at-else-found.ensures))) (in_hand _ c.get-c.ensures c.col_rows-col.ensures) c.args.mat.now.mat.shaped.small
+    c.requires.short in
     record { col_len_bound = R.short; by_index = R.cols; top_lt_max_size = R.room }
 
 pub dfs_loop-smaller : goal.dfs_loop-smaller
 dfs_loop-smaller c =
-    fall_again c.dfs_loop-test.true (in_hand _ c.column_at-c.ensures c.col_rows-col.ensures)
-    (sym c.by_column.ensures ∙ c.if-by_column-mark.false) (arm_again {from = c.get-next.result + 1} c.dfs_loop.invariant
-    c.dfs_loop-test.true (in_hand _ c.column_at-c.ensures c.col_rows-col.ensures)
-    (sym c.by_column.ensures ∙ c.if-by_column-mark.false) c.if-found.false (omega (arith, c.get-next.ensures)))
+    fall_again c.dfs_loop-test.true (in_hand _ c.get-c.ensures c.col_rows-col.ensures)
+    (sym c.get-stamp.ensures ∙ c.if-stamp-mark.false) (arm_again {from = c.get-at-else-found.result + 1} c.dfs_loop.invariant
+    c.dfs_loop-test.true (in_hand _ c.get-c.ensures c.col_rows-col.ensures)
+    (sym c.get-stamp.ensures ∙ c.if-stamp-mark.false) c.if-found.false (omega (arith, c.get-at-else-found.ensures)))
     c.advance-depth-else-found.ensures
 
 pub dfs_loop-preserved : goal.dfs_loop-preserved
 dfs_loop-preserved c =
-    arm_on (arm_again {from = c.get-next.result + 1} c.dfs_loop.invariant c.dfs_loop-test.true
-    (in_hand _ c.column_at-c.ensures c.col_rows-col.ensures) (sym c.by_column.ensures ∙ c.if-by_column-mark.false) c.if-found.false
-    (omega (arith, c.get-next.ensures))) (in_hand _ c.column_at-c.ensures c.col_rows-col.ensures) c.advance-depth-else-found.ensures
+    arm_on (arm_again {from = c.get-at-else-found.result + 1} c.dfs_loop.invariant c.dfs_loop-test.true
+    (in_hand _ c.get-c.ensures c.col_rows-col.ensures) (sym c.get-stamp.ensures ∙ c.if-stamp-mark.false) c.if-found.false
+    (omega (arith, c.get-at-else-found.ensures))) (in_hand _ c.get-c.ensures c.col_rows-col.ensures) c.advance-depth-else-found.ensures
 
-pub returns-clause-search_ends : goal.returns-clause-search_ends
-returns-clause-search_ends c =
-    (walk_done c.requires.search_ready c.put_column.ensures (omega arith) c.dfs_loop.invariant).0
+pub returns : goal.returns
+returns c =
+    let done = walk_done c.requires c.put.ensures (omega arith) c.dfs_loop.invariant in
+    record { search_ends = done.0; scol_unchanged = done.1 }

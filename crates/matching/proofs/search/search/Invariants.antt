@@ -4,7 +4,7 @@ use Rattle.matching.proofs.Places.{Passing}
 use Rattle.matching.proofs.Whole.{goal_of}
 use Rattle.matching.proofs.Falls.{weight}
 use Rattle.matching.proofs.Walk.{Walk}
-use Rattle.sparse.specs.Matrix.{column_or}
+use Rattle.sparse.specs.Columns.{edited_columns}
 use lib.ListN.{get_or}
 use Rattle.matching.proofs.search.search.Given as goal
 
@@ -14,7 +14,7 @@ invariant-loop-k l =
 
 abbrev pub invariant-dfs_loop : goal.invariant-dfs_loop
 invariant-dfs_loop l =
-    Walk (goal_of l.size (column_or l.starts l.rows l.edited.0 l.replacement) l.initial.row2col (get_or l.initial.scol 0 0)) l.mark
+    Walk (goal_of l.size (edited_columns l.mat) l.initial.row2col (get_or l.initial.scol 0 0)) l.mark
     l.initial.visited l.initial.cheap l.initial.scol l.initial.sat l.visited l.cheap l.scol l.sat l.row2col l.found l.depth
 
 abbrev pub decreases-dfs_loop : goal.decreases-dfs_loop
