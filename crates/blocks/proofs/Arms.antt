@@ -14,7 +14,7 @@ use Rattle.matching.specs.Parts.{col_at, Advance}
 use Rattle.matching.proofs.Arms.{Hand, ScanReady}
 use Rattle.blocks.specs.Parts.{Leaves}
 use Rattle.blocks.proofs.Stack.{Goal}
-use Rattle.blocks.proofs.Walking.{Lists, Walk, Scanning, few_entered, entered_room, at_new, at_old}
+use Rattle.blocks.proofs.Walking.{Lists, Walk, Scanning, few_entered, entered_room, top_room, top_below, at_new, at_old}
 use Rattle.blocks.proofs.Turns.{turn_enter, turn_again, turn_on, child_below, open_new, on_sum}
 
 -- ---- the step on top
@@ -25,6 +25,15 @@ pub at_top : {g : Goal} {mark : ℕ} {S₀ S : Lists} {e f depth : ℕ} → Walk
 at_top {g} {mark} {S₀} {S} {e} {f} {depth} W l =
     let z : depth ≡ suc (depth - 1) = omega arith in
     subst (λ d. Walk g mark S₀ S e f d) z W
+
+-- there is room for it
+pub depth_below : {g : Goal} {mark : ℕ} {S₀ S : Lists} {e f depth : ℕ} → Walk g mark S₀ S e f depth → 0 < depth → depth - 1 < g.n
+depth_below W l = top_room (at_top W l)
+
+-- its column is below n
+pub column_below : {g : Goal} {mark : ℕ} {S₀ S : Lists} {e f depth : ℕ} {c : Col} → Walk g mark S₀ S e f depth → 0 < depth
+    → c ≡ get_or S.cols (depth - 1) 0 → c < g.n
+column_below W l is = rw is (top_below (at_top W l))
 
 -- without the stamp on the column, there is room for one more to be entered
 pub enter_room : {g : Goal} {mark : ℕ} {S₀ S : Lists} {e f depth : ℕ} {c : Col} {rs : List Row} → Walk g mark S₀ S e f depth → 0 < depth

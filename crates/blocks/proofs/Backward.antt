@@ -3,7 +3,7 @@ use Prim.Native.Nat.{ℕ, ◌+◌, ◌≤◌, ◌<◌}
 use mathlib.Core.Path.{◌≡◌, refl, sym, ap, ◌∙◌, subst, fun_ext}
 use mathlib.Core.List.Memᴰ
 use mathlib.Core.List.{List, [], ◌∷◌, map}
-use native.Mathlib.Decide.{ℕ_discrete, dec_lt}
+use native.Mathlib.Decide.{dec_lt}
 use native.Mathlib.Omega.{arith}
 use lib.ListN.{length, get_or, take, drop}
 use lib.Seq.{slice, get_or-take, length-take-le, take-take}
@@ -11,12 +11,10 @@ use Rattle.graph.specs.Lists.{Mem, elem, range}
 use Rattle.graph.specs.Matchings.{Row, Col, Pattern, Inside, partner}
 use Rattle.graph.specs.Permutations.{Inverse}
 use Rattle.graph.specs.Blocks.{targets, parents}
-use Rattle.graph.proofs.Edits.{edited_same, edited_other}
 use Rattle.graph.proofs.Lists.{elem_mem, keep_only, range_is}
-use Rattle.sparse.specs.Limits.{max_size, max_entries}
-use Rattle.sparse.specs.Matrix.{column, column_or, Shaped}
+use Rattle.sparse.specs.Limits.{max_size}
+use Rattle.sparse.specs.Matrix.{column, Shaped}
 use Rattle.sparse.proofs.Matrix.{column_end, column_beyond}
-use Rattle.matching.proofs.Ready.{short_or}
 use Rattle.blocks.specs.Reverse.{entries, Reversible, ReverseRoom, Reversed}
 use Rattle.blocks.proofs.Totals.{targets_low}
 
@@ -74,11 +72,11 @@ back_shaped {n} {col} {starts = starts} {rows = rows} small room T = record {
     at : (c : ℕ) → c < n + 1 → get_or (take (n + 1) starts) c 0 ≡ get_or starts c 0
     at c l = get_or-take (n + 1) starts c 0 l
 
--- each column has the rows of its parents; e is no column
-pub back_column : {n : ℕ} {col : Pattern} {m : List Col} {inv : List Row} {starts₀ rows₀ starts rows : List ℕ} (e : Col) → n ≤ e
+-- each column has the rows of its parents
+pub back_column : {n : ℕ} {col : Pattern} {m : List Col} {inv : List Row} {starts₀ rows₀ starts rows : List ℕ}
     → n ≤ max_size → Reversible n col m → ReverseRoom n col starts rows → Reversed n col m inv starts₀ rows₀ starts rows
-    → (d : Col) → column_or (take (n + 1) starts) (take (entries n col) rows) e [] d ≡ map (partner inv) (parents n (targets col m) d)
-back_column {n} {col} {m} {inv} {starts = starts} {rows = rows} e none small R room T d = go (dec_lt d n)
+    → (d : Col) → column (take (n + 1) starts) (take (entries n col) rows) d ≡ map (partner inv) (parents n (targets col m) d)
+back_column {n} {col} {m} {inv} {starts = starts} {rows = rows} small R room T d = go (dec_lt d n)
   where
     s : List ℕ
     s = take (n + 1) starts
@@ -98,37 +96,27 @@ back_column {n} {col} {m} {inv} {starts = starts} {rows = rows} e none small R r
         ap (drop (get_or s d 0)) (take-take (get_or s (d + 1) 0) (entries n col) rows end)
         ∙ ap (λ y. slice y (get_or s (d + 1) 0) rows) lo ∙ ap (λ y. slice (get_or starts d 0) y rows) hi
 
-    empty : n ≤ d → Dec (d ≡ e) → column_or s r e [] d ≡ []
-    empty l (yes z) = subst (λ y. column_or s r e [] y ≡ []) (sym z) (edited_same (column s r) e [])
-    empty l (no ne) = edited_other (column s r) e [] d ne ∙ column_beyond S d l
-
-    go : Dec (d < n) → column_or s r e [] d ≡ map (partner inv) (parents n (targets col m) d)
-    go (yes l) = edited_other (column s r) e [] d (omega arith) ∙ cut l ∙ T.lists d l
-    go (no l) = empty (omega arith) (ℕ_discrete d e) ∙ sym (ap (map (partner inv)) (parents_beyond R d (omega arith)))
+    go : Dec (d < n) → column s r d ≡ map (partner inv) (parents n (targets col m) d)
+    go (yes l) = cut l ∙ T.lists d l
+    go (no l) = column_beyond S d (omega arith) ∙ sym (ap (map (partner inv)) (parents_beyond R d (omega arith)))
 
 -- so its graph is that of the parents
-pub back_kids : {n : ℕ} {col : Pattern} {m : List Col} {inv : List Row} {starts₀ rows₀ starts rows : List ℕ} (e : Col) → n ≤ e
+pub back_kids : {n : ℕ} {col : Pattern} {m : List Col} {inv : List Row} {starts₀ rows₀ starts rows : List ℕ}
     → n ≤ max_size → Reversible n col m → Inverse n m inv → ReverseRoom n col starts rows → Reversed n col m inv starts₀ rows₀ starts rows
-    → targets (column_or (take (n + 1) starts) (take (entries n col) rows) e []) m ≡ parents n (targets col m)
-back_kids {n} {col} {m} {inv} e none small R I room T = fun_ext (λ d.
-    ap (map (partner m)) (back_column e none small R room T d)
+    → targets (column (take (n + 1) starts) (take (entries n col) rows)) m ≡ parents n (targets col m)
+back_kids {n} {col} {m} {inv} small R I room T = fun_ext (λ d.
+    ap (map (partner m)) (back_column small R room T d)
     ∙ back_again n m inv I (parents n (targets col m) d) (λ c i. (parent_is n (targets col m) d c i).0))
 
 -- every entry is inside
-pub back_inside : {n : ℕ} {col : Pattern} {m : List Col} {inv : List Row} {starts₀ rows₀ starts rows : List ℕ} (e : Col) → n ≤ e
+pub back_inside : {n : ℕ} {col : Pattern} {m : List Col} {inv : List Row} {starts₀ rows₀ starts rows : List ℕ}
     → n ≤ max_size → Reversible n col m → Inverse n m inv → ReverseRoom n col starts rows → Reversed n col m inv starts₀ rows₀ starts rows
-    → Inside n (column_or (take (n + 1) starts) (take (entries n col) rows) e [])
-back_inside {n} {col} {m} {inv} e none small R I room T = record {
+    → Inside n (column (take (n + 1) starts) (take (entries n col) rows))
+back_inside {n} {col} {m} {inv} small R I room T = record {
   row_below = λ d r i.
-      let t = Memᴰ.of_map (partner inv) (parents n (targets col m) d) (subst (λ y. Mem r y) (back_column e none small R room T d) i) in
+      let t = Memᴰ.of_map (partner inv) (parents n (targets col m) d) (subst (λ y. Mem r y) (back_column small R room T d) i) in
       subst (λ y. y < n) t.2 (I.back_below t.0 (parent_is n (targets col m) d t.0 t.1).0);
   col_below = λ d r i.
-      let t = Memᴰ.of_map (partner inv) (parents n (targets col m) d) (subst (λ y. Mem r y) (back_column e none small R room T d) i) in
+      let t = Memᴰ.of_map (partner inv) (parents n (targets col m) d) (subst (λ y. Mem r y) (back_column small R room T d) i) in
       targets_low R t.0 d (parent_is n (targets col m) d t.0 t.1).1;
 }
-
--- no column is longer than the largest number of entries
-pub back_short : {n : ℕ} {col : Pattern} {m : List Col} {inv : List Row} {starts₀ rows₀ starts rows : List ℕ} (e : Col) → n ≤ max_size
-    → ReverseRoom n col starts rows → Reversed n col m inv starts₀ rows₀ starts rows
-    → (d : Col) → length (column_or (take (n + 1) starts) (take (entries n col) rows) e [] d) ≤ max_entries
-back_short e small room T = short_or e [] (back_shaped small room T) (omega arith)

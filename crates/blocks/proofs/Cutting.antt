@@ -16,10 +16,8 @@ use Rattle.graph.specs.Blocks.{targets, cut}
 use Rattle.graph.proofs.Lists.{elem_mem, mem_elem, not_elem, elem_not}
 use Rattle.graph.proofs.Walks.{Walks, enters_listed, enters_in_front, stays_entered}
 use Rattle.sparse.specs.Buffers.{zeroed}
-use Rattle.sparse.specs.Limits.{none, max_size}
-use Rattle.sparse.specs.Matrix.{column, column_or, Shaped}
+use Rattle.sparse.specs.Limits.{max_size}
 use Rattle.sparse.proofs.Buffers.{drop-zeroed, front_filled}
-use Rattle.matching.proofs.Columns.{unedited}
 use Rattle.blocks.specs.Walk.{last_first, walked, WalkEnds}
 use Rattle.blocks.specs.Cut.{second_pass, PassReady, CutReady, HoldsBlocks}
 use Rattle.blocks.specs.Form.{starts_from, block_starts}
@@ -382,17 +380,3 @@ seconds_end {n} {col} {m} {order} {es₀ = es₀} {given = given} {starts₀ = s
 
     back : drop (n + 1) starts₀ ≡ drop (n + 1) given
     back = ap (drop (n + 1)) e ∙ drop-zeroed (n + 1) given
-
--- ---- in storage, with no column replaced
-
--- the pattern is the matrix's
-pub pass_unedited : {size : ℕ} {starts rows : List ℕ} {m : List Col} {mark : ℕ} {v cs ps es fs : List ℕ} → Shaped size starts rows
-    → PassReady size (column starts rows) m mark v cs ps es fs → PassReady size (column_or starts rows none []) m mark v cs ps es fs
-pass_unedited {size} {m = m} {mark = mark} {v = v} {cs = cs} {ps = ps} {es = es} {fs = fs} S R =
-    subst (λ col. PassReady size col m mark v cs ps es fs) (sym (unedited [] S refl)) R
-
-pub holds_unedited : {size : ℕ} {starts rows : List ℕ} (m order : List Col) {es₀ given es ends : List ℕ} {b : ℕ} → Shaped size starts rows
-    → HoldsBlocks size (cut (targets (column_or starts rows none []) m) size [] (last_first order size)) es₀ given es ends b
-    → HoldsBlocks size (cut (targets (column starts rows) m) size [] (last_first order size)) es₀ given es ends b
-holds_unedited {size} m order {es₀} {given} {es} {ends} {b} S H =
-    subst (λ col. HoldsBlocks size (cut (targets col m) size [] (last_first order size)) es₀ given es ends b) (unedited [] S refl) H

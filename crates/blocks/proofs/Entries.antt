@@ -12,6 +12,18 @@ use Rattle.sparse.specs.Matrix.{column, column_or, width, Shaped}
 use Rattle.sparse.proofs.Matrix.{column_length}
 use Rattle.blocks.specs.Reverse.{entries}
 
+-- up to column k there are as many as its start says
+entries_to : {n : ℕ} {starts rows : List ℕ} → Shaped n starts rows → (k : ℕ) → k ≤ n
+    → entries k (column starts rows) ≡ get_or starts k 0
+entries_to S zero l = sym S.from_zero
+entries_to {starts = starts} S (suc k) l =
+    let next : get_or starts (k + 1) 0 ≡ get_or starts (suc k) 0 = ap (λ x. get_or starts x 0) (omega arith) in
+    omega (arith, entries_to S k (omega arith), column_length S k (omega arith), S.rising k (omega arith), next)
+
+-- a matrix as it stands has as many as rows
+pub entries_plain : {n : ℕ} {starts rows : List ℕ} → Shaped n starts rows → entries n (column starts rows) ≡ length rows
+entries_plain {n} S = entries_to S n (omega arith) ∙ S.to_end
+
 -- column k, if it is not the one replaced, goes from its start to the next
 column_step : {n : ℕ} {starts rows : List ℕ} (e : Col) (new : List Row) → Shaped n starts rows → (k : ℕ) → k < n → ¬ (k ≡ e)
     → get_or starts k 0 + length (column_or starts rows e new k) ≡ get_or starts (suc k) 0
@@ -43,11 +55,6 @@ entries_behind {n} {starts} {rows} e new S (suc k) l h =
         let own : length (column_or starts rows e new e) ≡ length new = ap length (edited_same (column starts rows) e new) in
         subst (λ x. entries (suc x) (column_or starts rows e new) + width starts e ≡ get_or starts (suc x) 0 + length new) y
         (omega (arith, entries_before e new S e (omega arith) (omega arith), own, S.rising e (omega arith), next))
-
--- where no column is replaced there are as many as rows
-pub entries_plain : {n : ℕ} {starts rows : List ℕ} (e : Col) (new : List Row) → Shaped n starts rows → n ≤ e
-    → entries n (column_or starts rows e new) ≡ length rows
-entries_plain {n} e new S l = entries_before e new S n (omega arith) l ∙ S.to_end
 
 -- where column e is, there are as many as rows, less those of the column and more those of the replacement
 pub entries_edited : {n : ℕ} {starts rows : List ℕ} (e : Col) (new : List Row) → Shaped n starts rows → e < n

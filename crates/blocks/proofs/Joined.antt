@@ -1,6 +1,6 @@
 -- The two passes together: the first leaves what the second needs, and the second over the reversed graph makes the rule's blocks.
 use Prim.Native.Nat.{ℕ, ◌+◌, ◌≤◌, ◌<◌}
-use mathlib.Core.Path.{◌≡◌, refl, sym, ap, ◌∙◌, subst}
+use mathlib.Core.Path.{◌≡◌, sym, ap, ◌∙◌, subst}
 use mathlib.Core.Logic.{◌≢◌, ◌↔◌}
 use mathlib.Core.List.Memᴰ
 use mathlib.Core.List.{List, []}
@@ -12,14 +12,14 @@ use Rattle.graph.specs.Permutations.{Inverse}
 use Rattle.graph.specs.Blocks.{targets, parents, cut, blocks}
 use Rattle.graph.proofs.Cuts.{Within}
 use Rattle.graph.proofs.Blocks.{finishing_columns}
-use Rattle.sparse.specs.Limits.{none, max_size, max_entries}
+use Rattle.sparse.specs.Limits.{max_size, max_entries}
 use Rattle.sparse.specs.Matrix.{column}
-use Rattle.matching.proofs.Columns.{unedited}
+use Rattle.matching.proofs.Ready.{column_short}
 use Rattle.blocks.specs.Walk.{last_first}
 use Rattle.blocks.specs.Cut.{second_pass, Finished, CutReady}
 use Rattle.blocks.specs.Reverse.{entries, Reversible, ReverseRoom, Reversed}
 use Rattle.blocks.proofs.Whole.{targets_below}
-use Rattle.blocks.proofs.Backward.{back_shaped, back_kids, back_inside, back_short}
+use Rattle.blocks.proofs.Backward.{back_shaped, back_kids, back_inside}
 
 -- ---- after the first pass
 
@@ -52,9 +52,7 @@ pub back_pattern : {n : ℕ} {col : Pattern} {m : List Col} {inv : List Row} {st
     → Reversible n col m → Inverse n m inv → ReverseRoom n col starts rows → Reversed n col m inv starts₀ rows₀ starts rows
     → Inside n (column (take (n + 1) starts) (take (entries n col) rows))
     × ((d : Col) → length (column (take (n + 1) starts) (take (entries n col) rows) d) ≤ max_entries)
-back_pattern {n} small R I room T =
-    subst (λ p. Inside n p × ((d : Col) → length (p d) ≤ max_entries)) (unedited [] (back_shaped small room T) refl)
-    (back_inside none (omega arith) small R I room T, back_short none small room T)
+back_pattern small R I room T = (back_inside small R I room T, column_short (back_shaped small room T))
 
 -- the blocks that the second pass cuts are those of the rule
 pub cut_is_blocks : {n : ℕ} {col : Pattern} {m : List Col} {inv : List Row} {starts₀ rows₀ starts rows v fs : List ℕ} → n ≤ max_size
@@ -62,7 +60,5 @@ pub cut_is_blocks : {n : ℕ} {col : Pattern} {m : List Col} {inv : List Row} {s
     → Finished n col m v fs
     → cut (targets (column (take (n + 1) starts) (take (entries n col) rows)) m) n [] (last_first fs n) ≡ blocks n (targets col m)
 unfolding blocks
-cut_is_blocks {n} {col} {m} {starts = starts} {rows = rows} {fs = fs} small R I room T F =
-    let back : targets (column (take (n + 1) starts) (take (entries n col) rows)) m ≡ parents n (targets col m) =
-    ap (λ p. targets p m) (sym (unedited [] (back_shaped small room T) refl)) ∙ back_kids none (omega arith) small R I room T in
-    ap (λ k. cut k n [] (last_first fs n)) back ∙ ap (cut (parents n (targets col m)) n []) F.finishes
+cut_is_blocks {n} {col} {m} {fs = fs} small R I room T F =
+    ap (λ k. cut k n [] (last_first fs n)) (back_kids small R I room T) ∙ ap (cut (parents n (targets col m)) n []) F.finishes

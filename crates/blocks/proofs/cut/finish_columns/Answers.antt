@@ -3,7 +3,7 @@ use Rattle.blocks.proofs.cut.finish_columns.Goals as goal
 
 pub loop-c-init : goal.loop-c-init
 loop-c-init c =
-    firsts_start c.requires.pass_ready
+    firsts_start c.requires
 
 pub loop-c-preserved : goal.loop-c-preserved
 loop-c-preserved c =

@@ -2,16 +2,23 @@
 use Rattle.blocks.proofs.Arms.{weight}
 use Rattle.blocks.proofs.Whole.{goal_of}
 use Rattle.blocks.proofs.Walking.{Walk}
-use Rattle.sparse.specs.Matrix.{column_or}
+use Rattle.sparse.specs.Columns.{edited_columns}
 use lib.ListN.{get_or}
 use Rattle.blocks.proofs.walk.walk.Given as goal
 
 abbrev pub invariant-loop-depth : goal.invariant-loop-depth
 invariant-loop-depth l =
-    Walk (goal_of l.size (column_or l.starts l.rows l.edited.0 l.replacement) l.row2col (get_or l.initial.scol 0 0) l.initial.entered l.initial.finished l.initial.e l.initial.f) l.mark
-    (record { stamps = l.initial.visited; cols = l.initial.scol; places = l.initial.sat; entered = l.initial.entered; finished = l.initial.finished })
+    Walk (goal_of l.mat.mat.size (edited_columns l.mat) l.row2col (get_or l.initial.scol 0 0)
+    l.initial.entered l.initial.finished l.initial.e l.initial.f) l.mark
+    (record {
+      stamps = l.initial.visited;
+      cols = l.initial.scol;
+      places = l.initial.sat;
+      entered = l.initial.entered;
+      finished = l.initial.finished;
+    })
     (record { stamps = l.visited; cols = l.scol; places = l.sat; entered = l.entered; finished = l.finished }) l.e l.f l.depth
 
 abbrev pub decreases-loop-depth : goal.decreases-loop-depth
 decreases-loop-depth l =
-    weight l.size l.e l.f l.depth
+    weight l.mat.mat.size l.e l.f l.depth
