@@ -90,6 +90,7 @@ pub record Handed (size : ℕ) (o : Outputs) (v : Verdict) (row2col hall : List 
   pub filled_with : row2col ≡ filled cols o.row2col
   pub unmarked : hall ≡ zeroed size o.hall
 
+-- a refusal is no acceptance
 not_matched : (r : Refusal) → ◌≡◌ {A = Checked} (Err r) passed → ⊥
 not_matched r e = let z : ◌≡◌ {A = ℕ} 0 1 = cc in omega arith
 
