@@ -15,72 +15,68 @@ use Rattle.graph.proofs.Targets.{targets_within, matching_form, form_carried}
 use Rattle.sparse.specs.Buffers.{zeroed, filled}
 use Rattle.sparse.specs.Limits.{none, max_size}
 use Rattle.sparse.specs.Matrix.{column}
-use Rattle.sparse.specs.Refusals.{first_refusal, early, repeated_row}
-use Rattle.sparse.specs.declared.Checked.{Checked}
-use Rattle.sparse.specs.declared.Checked.TheVariants as checked
-use Rattle.sparse.specs.declared.Refusal.{Refusal}
+use Rattle.std.specs.Prelude.{Ok, Err}
+use Rattle.sparse.specs.Refusals.{Checked, passed, number, as_column, first_refusal, early, repeated_row}
+use Rattle.sparse.specs.declared.refusal.Refusal.{Refusal}
+use Rattle.sparse.specs.declared.refusal.Refusal.TheVariants.{Unmatchable}
 use Rattle.sparse.proofs.Buffers.{filled_at}
 use Rattle.sparse.proofs.Early.{Early, early_passed, early_passes, early_number, repeats_number}
 use Rattle.sparse.proofs.Matrix.{inside, column_once}
 use Rattle.sparse.proofs.Passing.{repeats_pass}
 use Rattle.matching.specs.Matching.{Verdict, accepted, refused, matching}
 use Rattle.matching.specs.Outcome as m
-use Rattle.matching.specs.declared.diagonal.MatchingAnswer.{MatchingAnswer}
-use Rattle.matching.specs.declared.diagonal.MatchingAnswer.TheVariants as matched
 use Rattle.matching.proofs.Matching.{Decides, matching_decides}
 use Rattle.matching.proofs.Outcome.{hall_marks}
 use Rattle.blocks.specs.Form.{columns_of, block_starts, StoredForm}
 use Rattle.triangular.specs.Outcome.{Work, Outputs, outputs, Lent, lent, buffers, cleared, form_need, starts_need, Outcome, ended}
-use Rattle.triangular.specs.Outcome.{passed_on, handed_out, formed, outcome, Given, Means}
+use Rattle.triangular.specs.Outcome.{BlockAnswer, passed_on, handed_out, formed, outcome, Given, Means}
 use Rattle.blocks.specs.Cut.{HoldsBlocks}
-use Rattle.triangular.specs.declared.form.BlockAnswer.{BlockAnswer}
-use Rattle.triangular.specs.declared.form.BlockAnswer.TheVariants.{Accepted, Refused}
 use Rattle.blocks.proofs.Stored.{stored_form}
 
 -- ---- what passed checks say
 
 -- what passes is given, and what is given passes
 pub given : {size : ℕ} {starts : List ℕ} {rows : List Row} {l : Lent} → Early size starts rows (buffers size (length rows) l)
-    → repeated_row size starts rows ≡ checked.Passed → Given size starts rows l
+    → repeated_row size starts rows ≡ passed → Given size starts rows l
 given P e = record {
   valid = record { shaped = P.shaped; below = P.below; once = λ c l. column_once P.shaped e c };
   room = P.room;
 }
 
 pub given_early : {size : ℕ} {starts : List ℕ} {rows : List Row} {l : Lent} → Given size starts rows l
-    → first_refusal (early size starts rows (buffers size (length rows) l)) ≡ checked.Passed
+    → first_refusal (early size starts rows (buffers size (length rows) l)) ≡ passed
 given_early {size} {rows = rows} {l = l} G =
     early_passes (buffers size (length rows) l) G.valid.shaped G.valid.below G.room
 
 pub given_once : {size : ℕ} {starts : List ℕ} {rows : List Row} {l : Lent} → Given size starts rows l
-    → repeated_row size starts rows ≡ checked.Passed
+    → repeated_row size starts rows ≡ passed
 given_once G = repeats_pass G.valid.shaped G.valid.once
 
 -- ---- the exits of the outcome
 
 -- refused by 1, 2, 5 or 3: nothing has changed
 pub early_outcome : (size : ℕ) (starts : List ℕ) (rows : List Row) (l : Lent) (r : Refusal)
-    → first_refusal (early size starts rows (buffers size (length rows) l)) ≡ checked.Refused r
-    → ended (Refused r) l ≡ outcome size starts rows l
+    → first_refusal (early size starts rows (buffers size (length rows) l)) ≡ Err r
+    → ended (Err r) l ≡ outcome size starts rows l
 unfolding outcome
 early_outcome size starts rows l r e = rw e
 
 -- else what is formed, with workspace and stack zero
 pub formed_outcome : (size : ℕ) (starts : List ℕ) (rows : List Row) (l : Lent)
-    → first_refusal (early size starts rows (buffers size (length rows) l)) ≡ checked.Passed
+    → first_refusal (early size starts rows (buffers size (length rows) l)) ≡ passed
     → formed size starts rows (cleared size (length rows) l.inner) l.outer ≡ outcome size starts rows l
 unfolding outcome
 formed_outcome size starts rows l p = rw p
 
 -- refused by 4: no output has changed
 pub repeat_formed : (size : ℕ) (starts : List ℕ) (rows : List Row) (w : Work) (o : Outputs) (r : Refusal)
-    → repeated_row size starts rows ≡ checked.Refused r → ended (Refused r) (lent w o) ≡ formed size starts rows w o
+    → repeated_row size starts rows ≡ Err r → ended (Err r) (lent w o) ≡ formed size starts rows w o
 unfolding formed
 repeat_formed size starts rows w o r e = rw e
 
 -- else the verdict is handed out
 pub verdict_formed : (size : ℕ) (starts : List ℕ) (rows : List Row) (w : Work) (o : Outputs)
-    → repeated_row size starts rows ≡ checked.Passed
+    → repeated_row size starts rows ≡ passed
     → handed_out size (column starts rows) w o (matching size (column starts rows)) ≡ formed size starts rows w o
 unfolding formed
 verdict_formed size starts rows w o e = rw e
@@ -94,12 +90,13 @@ pub record Handed (size : ℕ) (o : Outputs) (v : Verdict) (row2col hall : List 
   pub filled_with : row2col ≡ filled cols o.row2col
   pub unmarked : hall ≡ zeroed size o.hall
 
-not_matched : (r : Refusal) → matched.Refused r ≡ matched.Accepted → ⊥
+-- a refusal is no acceptance
+not_matched : (r : Refusal) → ◌≡◌ {A = Checked} (Err r) passed → ⊥
 not_matched r e = let z : ◌≡◌ {A = ℕ} 0 1 = cc in omega arith
 
-pub handed_on : (size : ℕ) (l : m.Lent) (o : Outputs) (a : MatchingAnswer) (v : Verdict) (row2col hall : List ℕ)
+pub handed_on : (size : ℕ) (l : m.Lent) (o : Outputs) (a : Checked) (v : Verdict) (row2col hall : List ℕ)
     → l.row2col ≡ o.row2col → l.hall ≡ o.hall → m.ended a (m.cleared size l row2col hall) ≡ m.handed_out size l v
-    → a ≡ matched.Accepted → Handed size o v row2col hall
+    → a ≡ passed → Handed size o v row2col hall
 handed_on size l o a (accepted cols) row2col hall e f h k = record {
   cols = cols;
   verdict = refl;
@@ -111,27 +108,27 @@ handed_on size l o a (refused c seen) row2col hall e f h k = absurd (not_matched
 -- where it refused, so does the block form, with blocks that are zero
 pub hand_refused : (size : ℕ) (col : Pattern) (w : Work) (l : m.Lent) (o : Outputs) (r : Refusal) (v : Verdict)
     (row2col hall cols starts : List ℕ) → l.row2col ≡ o.row2col → l.hall ≡ o.hall
-    → m.ended (matched.Refused r) (m.cleared size l row2col hall) ≡ m.handed_out size l v
+    → m.ended (Err r) (m.cleared size l row2col hall) ≡ m.handed_out size l v
     → cols ≡ zeroed (form_need size) o.blockcols → starts ≡ zeroed (starts_need size) o.blockstarts
-    → ended (Refused r) (lent w (outputs row2col hall cols starts)) ≡ handed_out size col w o v
+    → ended (Err r) (lent w (outputs row2col hall cols starts)) ≡ handed_out size col w o v
 hand_refused size col w l o r (accepted cs) row2col hall cols starts e f h i j =
     absurd (not_matched r (ap (λ (t : m.Outcome). t.answer) h))
 hand_refused size col w l o r (refused c seen) row2col hall cols starts e f h i j =
-    let a : matched.Refused r ≡ m.unmatchable c = ap (λ (t : m.Outcome). t.answer) h in
-    let b : r ≡ record { number = 9; place = c } = cc in
+    let a : ◌≡◌ {A = Checked} (Err r) (m.unmatchable c) = ap (λ (t : m.Outcome). t.answer) h in
+    let b : r ≡ Unmatchable (as_column c) = cc in
     let d : row2col ≡ zeroed size o.row2col = ap (λ (t : m.Outcome). t.after.row2col) h ∙ rw e in
     let g : hall ≡ filled (m.marks_of size seen) o.hall = ap (λ (t : m.Outcome). t.after.hall) h ∙ rw f in
     rw (b, d, g, i, j)
 
 -- so its refusal is passed on
-pub hand_passed : (size : ℕ) (col : Pattern) (w : Work) (l : m.Lent) (o : Outputs) (a : MatchingAnswer) (r : Refusal) (v : Verdict)
-    (row2col hall cols starts : List ℕ) → a ≡ matched.Refused r → l.row2col ≡ o.row2col → l.hall ≡ o.hall
+pub hand_passed : (size : ℕ) (col : Pattern) (w : Work) (l : m.Lent) (o : Outputs) (a : Checked) (r : Refusal) (v : Verdict)
+    (row2col hall cols starts : List ℕ) → a ≡ Err r → l.row2col ≡ o.row2col → l.hall ≡ o.hall
     → m.ended a (m.cleared size l row2col hall) ≡ m.handed_out size l v
     → cols ≡ zeroed (form_need size) o.blockcols → starts ≡ zeroed (starts_need size) o.blockstarts
     → ended (passed_on a) (lent w (outputs row2col hall cols starts)) ≡ handed_out size col w o v
 hand_passed size col w l o a r v row2col hall cols starts k e f h i j =
     rw k (hand_refused size col w l o r v row2col hall cols starts e f
-    (ap (λ (t : MatchingAnswer). m.ended t (m.cleared size l row2col hall)) (sym k) ∙ h) i j)
+    (ap (λ (t : Checked). m.ended t (m.cleared size l row2col hall)) (sym k) ∙ h) i j)
 
 -- ---- the blocks of the matching
 
@@ -157,22 +154,22 @@ handed_agree {o = o} D H r l =
 pub hand_accepted : (size : ℕ) (col : Pattern) (w : Work) (o : Outputs) (v : Verdict) (row2col hall cols starts : List ℕ) (k : ℕ)
     → Inside size col → Decides size col v → Handed size o v row2col hall
     → HoldsBlocks size (blocks size (targets col row2col)) o.blockcols o.blockstarts cols starts k
-    → ended (Accepted k) (lent w (outputs row2col hall cols starts)) ≡ handed_out size col w o v
+    → ended (Ok k) (lent w (outputs row2col hall cols starts)) ≡ handed_out size col w o v
 hand_accepted size col w o v row2col hall cols starts k I D H B =
     let same : targets col row2col ≡ targets col H.cols = targets_agree I H.cols row2col (handed_agree D H) in
     rw (B.counted, B.columns, B.starts_are, same, H.verdict, H.unmarked, H.filled_with)
 
 -- ---- the meaning
 
-not_both : (x : Checked) (r : Refusal) → x ≡ checked.Passed → x ≡ checked.Refused r → ⊥
+not_both : (x : Checked) (r : Refusal) → x ≡ passed → x ≡ Err r → ⊥
 not_both x r e f = let z : ◌≡◌ {A = ℕ} 0 1 = cc in omega arith
 
-not_accepted : (r : Refusal) (k : ℕ) → Refused r ≡ Accepted k → ⊥
+not_accepted : (r : Refusal) (k : ℕ) → ◌≡◌ {A = BlockAnswer} (Err r) (Ok k) → ⊥
 not_accepted r k e = let z : ◌≡◌ {A = ℕ} 0 1 = cc in omega arith
 
 -- a refusal of the matrix or of the room, which is not 9
 refused_means : (size : ℕ) (starts : List ℕ) (rows : List Row) (l after : Lent) (r : Refusal) → (¬ Given size starts rows l)
-    → r.number ≤ 5 → Means size starts rows l after (Refused r)
+    → number r ≤ 5 → Means size starts rows l after (Err r)
 refused_means size starts rows l after r never few = record {
   accepted_exactly = (λ a. absurd (not_accepted r a.0 a.1), λ t. absurd (never t.0));
   perfect = λ k a. absurd (not_accepted r k a);
@@ -182,14 +179,14 @@ refused_means size starts rows l after r never few = record {
 }
 
 early_means : (size : ℕ) (starts : List ℕ) (rows : List Row) (l after : Lent) (r : Refusal)
-    → first_refusal (early size starts rows (buffers size (length rows) l)) ≡ checked.Refused r
-    → Means size starts rows l after (Refused r)
+    → first_refusal (early size starts rows (buffers size (length rows) l)) ≡ Err r
+    → Means size starts rows l after (Err r)
 early_means size starts rows l after r e =
     refused_means size starts rows l after r (λ G. not_both _ r (given_early G) e)
     (early_number size starts rows (buffers size (length rows) l) r e)
 
 repeat_means : (size : ℕ) (starts : List ℕ) (rows : List Row) (l after : Lent) (r : Refusal)
-    → repeated_row size starts rows ≡ checked.Refused r → Means size starts rows l after (Refused r)
+    → repeated_row size starts rows ≡ Err r → Means size starts rows l after (Err r)
 repeat_means size starts rows l after r e =
     refused_means size starts rows l after r (λ G. not_both _ r (given_once G) e) (omega (arith, repeats_number size starts rows r e))
 
@@ -227,7 +224,7 @@ handed_means size starts rows l w (accepted p) G D =
     agree : (r : Row) → r < size → partner (filled p l.outer.row2col) r ≡ partner p r
     agree r k = filled_at p l.outer.row2col r (omega (arith, D.sized p refl))
 
-    count : (k : ℕ) → Accepted (length (blocks size (targets (column starts rows) p))) ≡ Accepted k
+    count : (k : ℕ) → ◌≡◌ {A = BlockAnswer} (Ok (length (blocks size (targets (column starts rows) p)))) (Ok k)
         → length (blocks size (targets (column starts rows) p)) ≡ k
     count k a = cc
 handed_means size starts rows l w (refused c seen) G D = record {
@@ -248,8 +245,8 @@ decides {size} {starts} {rows} G =
     matching_decides size (column starts rows) (inside G.valid.shaped G.valid.below) (small_none G.valid.shaped.small)
 
 verdict_means : (size : ℕ) (starts : List ℕ) (rows : List Row) (l after : Lent) (w : Work) (answer : BlockAnswer)
-    → first_refusal (early size starts rows (buffers size (length rows) l)) ≡ checked.Passed
-    → repeated_row size starts rows ≡ checked.Passed
+    → first_refusal (early size starts rows (buffers size (length rows) l)) ≡ passed
+    → repeated_row size starts rows ≡ passed
     → ended answer after ≡ handed_out size (column starts rows) w l.outer (matching size (column starts rows))
     → Means size starts rows l after answer
 verdict_means size starts rows l after w answer p e f =
@@ -267,22 +264,22 @@ outcome_means size starts rows l after answer e = first (first_refusal (early si
     w : Work
     w = cleared size (length rows) l.inner
 
-    second : first_refusal (early size starts rows (buffers size (length rows) l)) ≡ checked.Passed
+    second : first_refusal (early size starts rows (buffers size (length rows) l)) ≡ passed
         → (x : Checked) → repeated_row size starts rows ≡ x → Means size starts rows l after answer
-    second p (checked.Refused r) q =
+    second p (Err r) q =
         let f = e ∙ sym (formed_outcome size starts rows l p) ∙ sym (repeat_formed size starts rows w l.outer r q) in
-        let b : answer ≡ Refused r = ap (λ (o : Outcome). o.answer) f in
+        let b : answer ≡ Err r = ap (λ (o : Outcome). o.answer) f in
         rw b (repeat_means size starts rows l after r q)
-    second p checked.Passed q =
+    second p passed q =
         verdict_means size starts rows l after w answer p q
         (e ∙ sym (formed_outcome size starts rows l p) ∙ sym (verdict_formed size starts rows w l.outer q))
 
     first : (x : Checked) → first_refusal (early size starts rows (buffers size (length rows) l)) ≡ x
         → Means size starts rows l after answer
-    first (checked.Refused r) q =
-        let b : answer ≡ Refused r = ap (λ (o : Outcome). o.answer) (e ∙ sym (early_outcome size starts rows l r q)) in
+    first (Err r) q =
+        let b : answer ≡ Err r = ap (λ (o : Outcome). o.answer) (e ∙ sym (early_outcome size starts rows l r q)) in
         rw b (early_means size starts rows l after r q)
-    first checked.Passed q = second q (repeated_row size starts rows) refl
+    first passed q = second q (repeated_row size starts rows) refl
 
 -- ---- a single outcome
 

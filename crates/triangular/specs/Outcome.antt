@@ -1,18 +1,16 @@
 -- The entry `find_block_diag_form`: what it is lent, what it leaves in every buffer for any input, and what that means.
-use Rattle.std.specs.Prelude.{ℕ, ◌+◌, ◌≡◌, List, [], ◌∷◌, ◌++◌, ◌↔◌, length}
+use Rattle.std.specs.Prelude.{ℕ, ◌+◌, ◌≡◌, List, [], ◌∷◌, ◌++◌, Result, Ok, Err, ◌↔◌, length}
 use Rattle.graph.specs.Matchings.{Col, Row, Pattern, Perfect, Points, partner}
 use Rattle.graph.specs.Blocks.{targets, blocks}
 use Rattle.sparse.specs.Matrix.{column, Valid}
 use Rattle.sparse.specs.Buffers.{zeroed, filled}
-use Rattle.sparse.specs.Refusals.{first_refusal, on_check, Buffer, buffer, Roomy, early, repeated_row}
-use Rattle.sparse.specs.declared.Refusal.{Refusal}
+use Rattle.sparse.specs.Refusals.{Checked, as_column, number_of, place_of, first_refusal, on_check}
+use Rattle.sparse.specs.Refusals.{Buffer, buffer, Roomy, early, repeated_row}
+use Rattle.sparse.specs.declared.refusal.Refusal.{Refusal}
+use Rattle.sparse.specs.declared.refusal.Refusal.TheVariants.{Unmatchable}
 use Rattle.matching.specs.Matching.{Verdict, accepted, refused, matching, Matchable}
 use Rattle.matching.specs.Outcome.{marks_of, HallMarks}
-use Rattle.matching.specs.declared.diagonal.MatchingAnswer.{MatchingAnswer}
-use Rattle.matching.specs.declared.diagonal.MatchingAnswer.TheVariants as matched
 use Rattle.blocks.specs.Form.{columns_of, block_starts, StoredForm}
-use Rattle.triangular.specs.declared.form.BlockAnswer.{BlockAnswer}
-use Rattle.triangular.specs.declared.form.BlockAnswer.TheVariants.{Accepted, Refused}
 
 -- ---- the lent buffers
 
@@ -95,6 +93,10 @@ cleared size entries w =
 
 -- ---- the outcome
 
+-- the number of blocks, or a refusal
+abbrev pub BlockAnswer : Type 0
+BlockAnswer = Result ℕ Refusal
+
 -- an answer, and every buffer afterwards
 pub record Outcome : Type 0 where
   pub answer : BlockAnswer
@@ -103,33 +105,25 @@ pub record Outcome : Type 0 where
 abbrev pub ended : BlockAnswer → Lent → Outcome
 ended answer after = record { answer = answer; after = after }
 
--- the table's number and place of an answer, and its count of blocks
-abbrev pub number_of : BlockAnswer → ℕ
-number_of (Accepted k) = 0
-number_of (Refused r) = r.number
-
-abbrev pub place_of : BlockAnswer → ℕ
-place_of (Accepted k) = 0
-place_of (Refused r) = r.place
-
+-- an answer's count of blocks: 0 for a refusal
 abbrev pub count_of : BlockAnswer → ℕ
-count_of (Accepted k) = k
-count_of (Refused r) = 0
+count_of (Ok k) = k
+count_of (Err r) = 0
 
 -- what the matching refuses is refused
-abbrev pub passed_on : MatchingAnswer → BlockAnswer
-passed_on matched.Accepted = Accepted 0
-passed_on (matched.Refused r) = Refused r
+abbrev pub passed_on : Checked → BlockAnswer
+passed_on (Ok u) = Ok 0
+passed_on (Err r) = Err r
 
 -- 9: no perfect matching, at the column whose search failed
 abbrev pub unmatchable : Col → BlockAnswer
-unmatchable c = Refused (record { number = 9; place = c })
+unmatchable c = Err (Unmatchable (as_column c))
 
 -- accepted: the matching, no marks, and the blocks, with zeros behind the last start; 9: the visited columns marked, else zeros
 abbrev pub handed_out : ℕ → Pattern → Work → Outputs → Verdict → Outcome
 handed_out size col w o (accepted m) =
     let bs = blocks size (targets col m) in
-    ended (Accepted (length bs))
+    ended (Ok (length bs))
     (lent w (outputs (filled m o.row2col) (zeroed (form_need size) o.hall) (filled (columns_of bs) o.blockcols)
     (filled (block_starts size bs) o.blockstarts)))
 handed_out size col w o (refused c visited) =
@@ -140,13 +134,13 @@ handed_out size col w o (refused c visited) =
 -- where 1, 2, 5 and 3 let a matrix through: 4 changes no output; else the matching rule's verdict is handed out
 unfoldable pub formed : ℕ → List ℕ → List Row → Work → Outputs → Outcome
 formed size starts rows w o =
-    on_check (repeated_row size starts rows) (λ (r : Refusal). ended (Refused r) (lent w o))
+    on_check (repeated_row size starts rows) (λ (r : Refusal). ended (Err r) (lent w o))
     (handed_out size (column starts rows) w o (matching size (column starts rows)))
 
 -- for any input: 1, 2, 5 and 3 change nothing; anything else leaves workspace and stack zero
 unfoldable pub outcome : ℕ → List ℕ → List Row → Lent → Outcome
 outcome size starts rows l =
-    on_check (first_refusal (early size starts rows (buffers size (length rows) l))) (λ (r : Refusal). ended (Refused r) l)
+    on_check (first_refusal (early size starts rows (buffers size (length rows) l))) (λ (r : Refusal). ended (Err r) l)
     (formed size starts rows (cleared size (length rows) l.inner) l.outer)
 
 -- ---- the meaning
@@ -159,9 +153,9 @@ pub record Given (size : ℕ) (starts : List ℕ) (rows : List Row) (l : Lent) :
 -- accepted exactly if there is a perfect matching; then row2col is one, and as many blocks as counted stand in the other two outputs,
 -- by what reaches what in its graph; 9 exactly if there is none, and then the marks are a Hall set
 pub record Means (size : ℕ) (starts : List ℕ) (rows : List Row) (l after : Lent) (answer : BlockAnswer) : Type 0 where
-  pub accepted_exactly : ((k : ℕ) × (answer ≡ Accepted k)) ↔ (Given size starts rows l × Matchable size (column starts rows))
-  pub perfect : (k : ℕ) → answer ≡ Accepted k → Perfect size (column starts rows) (partner after.outer.row2col)
-  pub form : (k : ℕ) → answer ≡ Accepted k
+  pub accepted_exactly : ((k : ℕ) × (answer ≡ Ok k)) ↔ (Given size starts rows l × Matchable size (column starts rows))
+  pub perfect : (k : ℕ) → answer ≡ Ok k → Perfect size (column starts rows) (partner after.outer.row2col)
+  pub form : (k : ℕ) → answer ≡ Ok k
       → StoredForm size (Points size (column starts rows) (partner after.outer.row2col)) after.outer.blockcols
       after.outer.blockstarts k
   pub refused_exactly : (number_of answer ≡ 9) ↔ (Given size starts rows l × (¬ Matchable size (column starts rows)))

@@ -1,9 +1,8 @@
 -- The block form's samples: P1 to P6 and a refusal of each kind, each over buffers that hold junk.
-use Rattle.std.specs.Prelude.{ℕ, List, [], ◌∷◌}
+use Rattle.std.specs.Prelude.{ℕ, List, [], ◌∷◌, Ok, Err}
 use Rattle.graph.specs.Matchings.{Row, Col}
-use Rattle.triangular.specs.Outcome.{Work, work, Outputs, outputs, Lent, lent, Outcome, ended}
-use Rattle.triangular.specs.declared.form.BlockAnswer.{BlockAnswer}
-use Rattle.triangular.specs.declared.form.BlockAnswer.TheVariants.{Accepted, Refused}
+use Rattle.sparse.specs.declared.refusal.Refusal.TheVariants.{TooLarge, Misshapen, RowOutside, RepeatedRow, NoRoom}
+use Rattle.triangular.specs.Outcome.{Work, work, Outputs, outputs, Lent, lent, Outcome, ended, unmatchable}
 
 -- a matrix, the buffers lent, and what comes of it
 pub record FormSample : Type 0 where
@@ -15,9 +14,6 @@ pub record FormSample : Type 0 where
 
 abbrev sample : ℕ → List ℕ → List Row → Lent → Outcome → FormSample
 sample size starts rows before gives = record { size = size; starts = starts; rows = rows; before = before; gives = gives }
-
-abbrev refused : ℕ → ℕ → BlockAnswer
-refused number place = Refused (record { number = number; place = place })
 
 -- two numbers, three numbers and three zeros
 abbrev two : ℕ → ℕ → List ℕ
@@ -66,24 +62,24 @@ least = lent (inside [] (7 ∷ []) []) (outputs [] [] [] (8 ∷ []))
 -- 1, 2, 5, 3 and 4
 abbrev pub form_samples : List FormSample
 form_samples =
-    sample 0 (0 ∷ []) [] least (ended (Accepted 0) (lent (inside [] (0 ∷ []) []) (outputs [] [] [] (0 ∷ []))))
+    sample 0 (0 ∷ []) [] least (ended (Ok 0) (lent (inside [] (0 ∷ []) []) (outputs [] [] [] (0 ∷ []))))
     ∷ sample 1 (0 ∷ 0 ∷ []) [] small
-    (ended (refused 9 0)
+    (ended (unmatchable 0)
     (lent (inside (two 0 8) (0 ∷ 0 ∷ 9 ∷ []) (9 ∷ [])) (outputs (two 0 8) (two 1 8) (two 0 8) (0 ∷ 0 ∷ 9 ∷ []))))
     ∷ sample 3 (0 ∷ 2 ∷ 3 ∷ 5 ∷ []) (0 ∷ 1 ∷ 1 ∷ 0 ∷ 2 ∷ []) wide
-    (ended (Accepted 3) (lent clean (written (λ t. 0 ∷ 1 ∷ 2 ∷ t) zeros (λ t. 2 ∷ 0 ∷ 1 ∷ t) (λ t. 0 ∷ 1 ∷ 2 ∷ 3 ∷ t))))
+    (ended (Ok 3) (lent clean (written (λ t. 0 ∷ 1 ∷ 2 ∷ t) zeros (λ t. 2 ∷ 0 ∷ 1 ∷ t) (λ t. 0 ∷ 1 ∷ 2 ∷ 3 ∷ t))))
     ∷ sample 3 (0 ∷ 2 ∷ 3 ∷ 5 ∷ []) (0 ∷ 1 ∷ 0 ∷ 1 ∷ 2 ∷ []) wide
-    (ended (Accepted 3) (lent clean (written (λ t. 1 ∷ 0 ∷ 2 ∷ t) zeros (λ t. 2 ∷ 0 ∷ 1 ∷ t) (λ t. 0 ∷ 1 ∷ 2 ∷ 3 ∷ t))))
+    (ended (Ok 3) (lent clean (written (λ t. 1 ∷ 0 ∷ 2 ∷ t) zeros (λ t. 2 ∷ 0 ∷ 1 ∷ t) (λ t. 0 ∷ 1 ∷ 2 ∷ 3 ∷ t))))
     ∷ sample 3 (0 ∷ 1 ∷ 2 ∷ 4 ∷ []) (0 ∷ 0 ∷ 1 ∷ 2 ∷ []) wide
-    (ended (refused 9 1) (lent clean_four (written zeros (λ t. 1 ∷ 1 ∷ 0 ∷ t) zeros (λ t. zeros (0 ∷ t)))))
+    (ended (unmatchable 1) (lent clean_four (written zeros (λ t. 1 ∷ 1 ∷ 0 ∷ t) zeros (λ t. zeros (0 ∷ t)))))
     ∷ sample 2 (0 ∷ 2 ∷ 4 ∷ []) (0 ∷ 1 ∷ 0 ∷ 1 ∷ []) full
-    (ended (Accepted 1)
+    (ended (Ok 1)
     (lent (inside (two 0 0) (zeros []) (zeros (0 ∷ []))) (outputs (two 0 1) (two 0 0) (two 0 1) (0 ∷ 2 ∷ 0 ∷ []))))
     ∷ sample 3 (0 ∷ 2 ∷ 4 ∷ 5 ∷ []) (1 ∷ 2 ∷ 1 ∷ 2 ∷ 0 ∷ []) wide
-    (ended (Accepted 2) (lent clean (written (λ t. 2 ∷ 0 ∷ 1 ∷ t) zeros (λ t. 2 ∷ 0 ∷ 1 ∷ t) (λ t. 0 ∷ 1 ∷ 3 ∷ 0 ∷ t))))
-    ∷ sample 4097 [] [] least (ended (refused 1 0) least)
-    ∷ sample 1 (0 ∷ 2 ∷ []) (0 ∷ []) small (ended (refused 2 0) small)
-    ∷ sample 1 (0 ∷ 2 ∷ []) (9 ∷ 9 ∷ []) small (ended (refused 5 0) small)
-    ∷ sample 3 (0 ∷ 2 ∷ 3 ∷ 5 ∷ []) (0 ∷ 2 ∷ 3 ∷ 0 ∷ 4 ∷ []) wide (ended (refused 3 2) wide)
-    ∷ sample 3 (0 ∷ 0 ∷ 3 ∷ 5 ∷ []) (0 ∷ 1 ∷ 0 ∷ 1 ∷ 1 ∷ []) wide (ended (refused 4 2) (lent clean wide.outer))
+    (ended (Ok 2) (lent clean (written (λ t. 2 ∷ 0 ∷ 1 ∷ t) zeros (λ t. 2 ∷ 0 ∷ 1 ∷ t) (λ t. 0 ∷ 1 ∷ 3 ∷ 0 ∷ t))))
+    ∷ sample 4097 [] [] least (ended (Err TooLarge) least)
+    ∷ sample 1 (0 ∷ 2 ∷ []) (0 ∷ []) small (ended (Err Misshapen) small)
+    ∷ sample 1 (0 ∷ 2 ∷ []) (9 ∷ 9 ∷ []) small (ended (Err NoRoom) small)
+    ∷ sample 3 (0 ∷ 2 ∷ 3 ∷ 5 ∷ []) (0 ∷ 2 ∷ 3 ∷ 0 ∷ 4 ∷ []) wide (ended (Err (RowOutside 2)) wide)
+    ∷ sample 3 (0 ∷ 0 ∷ 3 ∷ 5 ∷ []) (0 ∷ 1 ∷ 0 ∷ 1 ∷ 1 ∷ []) wide (ended (Err (RepeatedRow 2)) (lent clean wide.outer))
     ∷ []

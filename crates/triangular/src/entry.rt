@@ -1,25 +1,23 @@
 // The entry of the block form: the matching first, and under it the two passes.
-ghost use Rattle.std.specs.Prelude.{◌≡◌, length};
-ghost use Rattle.sparse.specs.Matrix.{column, Shaped, RowsBelow};
+ghost use Rattle.std.specs.Prelude.{◌≡◌, ℕ, ◌<◌, length};
+ghost use Rattle.graph.specs.Lists.{Once};
+ghost use Rattle.sparse.specs.Columns.{columns};
 ghost use Rattle.sparse.specs.Parts.{ZeroBelow};
 ghost use Rattle.sparse.specs.Refusals.{Roomy};
 ghost use Rattle.matching.specs.Matching.{matching};
 ghost use Rattle.triangular.specs.Outcome.{Work, work, outputs, lent, buffers, cleared};
-ghost use Rattle.triangular.specs.Outcome.{handed_out, formed, outcome, ended, Given, Means};
+ghost use Rattle.triangular.specs.Outcome.{handed_out, formed, outcome, ended, Means};
 
-use super::form::{BlockAnswer, clear_blocks, clear_work, entries_need, lacks_room, pass_on};
+use super::form::{clear_blocks, clear_work, entries_need, lacks_room};
 use super::matched::block_matched;
-use matching::MatchingAnswer;
 use matching::diagonal::match_valid;
 use sparse::checks::{check_early, check_repeats};
 use sparse::slices::clear;
-use sparse::{Checked, Column, NONE};
+use sparse::{EditedMat, Refusal, SquareMat};
 
 // The block form of a valid matrix, over stamps that are zero. What the workspace holds afterwards is the caller's to clear.
 pub fn block_valid(
-    size: u32,
-    starts: &[u32],
-    rows: &[u32],
+    mat: &SquareMat,
     visited: &mut [u32],
     cheap: &mut [u32],
     finished: &mut [u32],
@@ -32,30 +30,30 @@ pub fn block_valid(
     hall: &mut [u32],
     blockcols: &mut [u32],
     blockstarts: &mut [u32],
-) -> BlockAnswer
-    requires given { Given size starts.now rows.now (lent (work visited.old cheap.old finished.old col2row.old backstarts.old
-        backrows.old scol.old sat.old) (outputs row2col.old hall.old blockcols.old blockstarts.old)) }
-    requires zero_below { ZeroBelow size visited.old }
+) -> Result<u32, Refusal>
+    requires once { (c : ℕ) → c < mat.now.mat.size → Once (columns mat.now.mat c) }
+    requires roomy { Roomy (buffers mat.now.mat.size (length mat.now.mat.rows.now) (lent (work visited.old cheap.old finished.old
+        col2row.old backstarts.old backrows.old scol.old sat.old) (outputs row2col.old hall.old blockcols.old blockstarts.old))) }
+    requires zero_below { ZeroBelow mat.now.mat.size visited.old }
     ensures blockstarts_after { (w : Work) → ended result (lent w (outputs row2col.new hall.new blockcols.new
-        blockstarts.new)) ≡ handed_out size (column starts.now rows.now) w (outputs row2col.old
-        hall.old blockcols.old blockstarts.old) (matching size (column starts.now
-        rows.now)) }
-    ensures sat_unchanged { cleared size (length rows.now) (work visited.new cheap.new finished.new
+        blockstarts.new)) ≡ handed_out mat.now.mat.size (columns mat.now.mat) w (outputs row2col.old
+        hall.old blockcols.old blockstarts.old) (matching mat.now.mat.size (columns mat.now.mat)) }
+    ensures sat_unchanged { cleared mat.now.mat.size (length mat.now.mat.rows.now) (work visited.new cheap.new finished.new
         col2row.new backstarts.new backrows.new scol.new sat.new)
-        ≡ cleared size (length rows.now) (work visited.old cheap.old finished.old
+        ≡ cleared mat.now.mat.size (length mat.now.mat.rows.now) (work visited.old cheap.old finished.old
         col2row.old backstarts.old backrows.old scol.old sat.old) }
 {
-    let matched = match_valid(size, starts, rows, visited, cheap, scol, sat, row2col, hall);
-    let MatchingAnswer::Accepted = matched else {
-        clear_blocks(size, blockcols, blockstarts);
-        return pass_on(matched);
+    let matched = match_valid(mat, visited, cheap, scol, sat, row2col, hall);
+    let Ok(()) = matched else {
+        clear_blocks(mat.mat.size, blockcols, blockstarts);
+        return matched.map(|()| 0);
+    };
+    let unedited = EditedMat {
+        mat: mat.mat,
+        edit: None,
     };
     let count = block_matched(
-        size,
-        starts,
-        rows,
-        Column(NONE),
-        &[],
+        &unedited,
         row2col,
         visited,
         cheap,
@@ -68,14 +66,12 @@ pub fn block_valid(
         blockcols,
         blockstarts,
     );
-    BlockAnswer::Accepted(count)
+    Ok(count)
 }
 
 // The block form of a matrix that refusals 1, 2, 5 and 3 let through. What the workspace holds afterwards is the caller's to clear.
 pub fn block_tested(
-    size: u32,
-    starts: &[u32],
-    rows: &[u32],
+    mat: &SquareMat,
     visited: &mut [u32],
     cheap: &mut [u32],
     finished: &mut [u32],
@@ -88,27 +84,21 @@ pub fn block_tested(
     hall: &mut [u32],
     blockcols: &mut [u32],
     blockstarts: &mut [u32],
-) -> BlockAnswer
-    requires shaped { Shaped size starts.now rows.now × RowsBelow rows.now size }
-    requires roomy { Roomy (buffers size (length rows.now) (lent (work visited.old cheap.old finished.old col2row.old
-        backstarts.old backrows.old scol.old sat.old) (outputs row2col.old hall.old blockcols.old blockstarts.old))) }
+) -> Result<u32, Refusal>
+    requires { Roomy (buffers mat.now.mat.size (length mat.now.mat.rows.now) (lent (work visited.old cheap.old finished.old
+        col2row.old backstarts.old backrows.old scol.old sat.old) (outputs row2col.old hall.old blockcols.old blockstarts.old))) }
     ensures blockstarts_after { (w : Work) → ended result (lent w (outputs row2col.new hall.new blockcols.new
-        blockstarts.new)) ≡ formed size starts.now rows.now w (outputs row2col.old
+        blockstarts.new)) ≡ formed mat.now.mat.size mat.now.mat.starts.now mat.now.mat.rows.now w (outputs row2col.old
         hall.old blockcols.old blockstarts.old) }
-    ensures sat_unchanged { cleared size (length rows.now) (work visited.new cheap.new finished.new
+    ensures sat_unchanged { cleared mat.now.mat.size (length mat.now.mat.rows.now) (work visited.new cheap.new finished.new
         col2row.new backstarts.new backrows.new scol.new sat.new)
-        ≡ cleared size (length rows.now) (work visited.old cheap.old finished.old
+        ≡ cleared mat.now.mat.size (length mat.now.mat.rows.now) (work visited.old cheap.old finished.old
         col2row.old backstarts.old backrows.old scol.old sat.old) }
 {
-    clear(visited, size);
-    let repeats = check_repeats(size, starts, rows, visited);
-    if let Checked::Refused(r) = repeats {
-        return BlockAnswer::Refused(r);
-    }
+    clear(visited, mat.mat.size);
+    check_repeats(mat, visited)?;
     block_valid(
-        size,
-        starts,
-        rows,
+        mat,
         visited,
         cheap,
         finished,
@@ -142,7 +132,7 @@ pub fn find_block_diag_form(
     hall: &mut [u32],
     blockcols: &mut [u32],
     blockstarts: &mut [u32],
-) -> BlockAnswer
+) -> Result<u32, Refusal>
     ensures outcome { ended result (lent (work visited.new cheap.new finished.new col2row.new
         backstarts.new backrows.new scol.new sat.new) (outputs row2col.new
         hall.new blockcols.new blockstarts.new))
@@ -172,14 +162,9 @@ pub fn find_block_diag_form(
         blockcols,
         blockstarts,
     );
-    let first = check_early(size, starts, rows, short);
-    if let Checked::Refused(r) = first {
-        return BlockAnswer::Refused(r);
-    }
+    let mat = check_early(size, starts, rows, short)?;
     let answer = block_tested(
-        size,
-        starts,
-        rows,
+        &mat,
         visited,
         cheap,
         finished,

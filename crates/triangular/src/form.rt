@@ -1,22 +1,12 @@
-// The block triangular form: its answer, its needs, and the parts of its entry that look at every buffer.
+// The block triangular form: its needs, and the parts of its entry that look at every buffer.
 ghost use Rattle.std.specs.Prelude.{◌≡◌, List, ℕ, ◌+◌, ◌≤◌, ltb, length};
-ghost use Rattle.graph.specs.Permutations.{Permutes, inverse};
-ghost use Rattle.sparse.specs.Buffers.{zeroed, filled};
+ghost use Rattle.sparse.specs.Buffers.{zeroed};
 ghost use Rattle.sparse.specs.Limits.{max_size};
 ghost use Rattle.sparse.specs.Refusals.{one_short, Roomy};
 ghost use Rattle.triangular.specs.Outcome.{work, outputs, lent, form_need, starts_need, entries_need, work_buffers, output_buffers};
-ghost use Rattle.triangular.specs.Outcome.{buffers, cleared, passed_on};
+ghost use Rattle.triangular.specs.Outcome.{buffers, cleared};
 
-use matching::MatchingAnswer;
-use sparse::slices::{by_row, clear, put_by_column};
-use sparse::{Column, OriginalRow, Refusal};
-
-// Accepted with the number of blocks.
-#[derive(Clone, Copy)]
-pub enum BlockAnswer {
-    Accepted(u32),
-    Refused(Refusal),
-}
+use sparse::slices::clear;
 
 // How many numbers are needed of each slice that goes by columns.
 pub fn form_need(size: u32) -> u32
@@ -150,25 +140,4 @@ pub fn clear_blocks(size: u32, blockcols: &mut [u32], blockstarts: &mut [u32])
 {
     clear(blockcols, form_need(size));
     clear(blockstarts, starts_need(size) as u32);
-}
-
-// The row of each column, from the columns by row.
-pub fn invert_matching(size: u32, row2col: &[u32], col2row: &mut [u32])
-    requires size_in_bounds { (size ≤ length row2col.now) × (size ≤ length col2row.old) }
-    requires permutes { Permutes size row2col.now }
-    ensures { col2row.new ≡ filled (inverse size row2col.now) col2row.old }
-{
-    for r in 0..size {
-        put_by_column(col2row, Column(by_row(row2col, OriginalRow(r))), r);
-    }
-}
-
-// A refusal of the matching as one of the block form.
-pub fn pass_on(answer: MatchingAnswer) -> BlockAnswer
-    ensures { result ≡ passed_on answer }
-{
-    match answer {
-        MatchingAnswer::Accepted => BlockAnswer::Accepted(0),
-        MatchingAnswer::Refused(r) => BlockAnswer::Refused(r),
-    }
 }

@@ -6,4 +6,3 @@ pub mod form;
 pub mod matched;
 
 pub use entry::find_block_diag_form;
-pub use form::BlockAnswer;

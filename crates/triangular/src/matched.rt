@@ -1,8 +1,9 @@
 // The blocks of a matrix under a perfect matching: the first pass, the graph reversed, and the second pass over it.
 ghost use Rattle.std.specs.Prelude.{◌≡◌, [], ◌+◌, ◌≤◌, ◌<◌, length, get_or, take};
 ghost use Rattle.graph.specs.Blocks.{targets, blocks, cut};
+ghost use Rattle.sparse.specs.Columns.{edited_columns};
 ghost use Rattle.sparse.specs.Limits.{max_entries};
-ghost use Rattle.sparse.specs.Matrix.{column, column_or, Shaped};
+ghost use Rattle.sparse.specs.Matrix.{column, Shaped};
 ghost use Rattle.sparse.specs.Refusals.{Roomy};
 ghost use Rattle.blocks.specs.Walk.{last_first, SameFrom};
 ghost use Rattle.blocks.specs.Reverse.{entries, Reversible};
@@ -10,11 +11,10 @@ ghost use Rattle.blocks.specs.Cut.{second_pass, PassReady, CutReady, HoldsBlocks
 ghost use Rattle.triangular.specs.Outcome.{work, form_need, starts_need, work_buffers};
 ghost use Rattle.triangular.specs.Parts.{SameWork};
 
-use super::form::invert_matching;
 use blocks::cut::{cut_blocks, finish_columns};
 use blocks::reverse::reverse_graph;
-use sparse::Column;
-use sparse::slices::{clear, get};
+use sparse::slices::{clear, get, invert};
+use sparse::{Column, EditedMat, OriginalRow, SparseMat};
 
 // The second pass over the reversed graph, which fills the front of its two slices.
 fn cut_matched(
@@ -42,11 +42,14 @@ fn cut_matched(
     ensures same_from { SameFrom size visited.old scol.old sat.old blockcols.old
         cheap.old visited.new scol.new sat.new blockcols.new cheap.new }
 {
-    let end = get(backstarts, size) as usize;
-    cut_blocks(
+    let end: u32 = get(backstarts, size);
+    let reversed = SparseMat {
         size,
-        &backstarts[..size as usize + 1],
-        &backrows[..end],
+        starts: &backstarts[..size as usize + 1],
+        rows: &backrows[..end as usize],
+    };
+    cut_blocks(
+        &reversed,
         row2col,
         finished,
         visited,
@@ -60,12 +63,8 @@ fn cut_matched(
 
 // The blocks of a matrix under a perfect matching. Returns how many there are. What the workspace holds afterwards is the caller's to
 // clear.
-pub fn block_matched<'a>(
-    size: u32,
-    starts: &[u32],
-    rows: &'a [u32],
-    edited: Column,
-    replacement: &'a [u32],
+pub fn block_matched(
+    mat: &EditedMat,
     row2col: &[u32],
     visited: &mut [u32],
     cheap: &mut [u32],
@@ -78,48 +77,25 @@ pub fn block_matched<'a>(
     blockcols: &mut [u32],
     blockstarts: &mut [u32],
 ) -> u32
-    requires shaped { Shaped size starts.now rows.now }
-    requires reversible { Reversible size (column_or starts.now rows.now edited.0 replacement.now) row2col.now
-        × (entries size (column_or starts.now rows.now edited.0 replacement.now) ≤ max_entries) }
-    requires roomy { Roomy (work_buffers size (entries size (column_or starts.now rows.now edited.0 replacement.now))
+    requires reversible { Reversible mat.now.mat.size (edited_columns mat.now) row2col.now
+        × (entries mat.now.mat.size (edited_columns mat.now) ≤ max_entries) }
+    requires roomy { Roomy (work_buffers mat.now.mat.size (entries mat.now.mat.size (edited_columns mat.now))
         (work visited.old cheap.old finished.old col2row.old backstarts.old backrows.old scol.old sat.old)) }
-    requires size_in_bounds { (form_need size ≤ length blockcols.old) × (starts_need size ≤ length blockstarts.old) }
-    ensures holds_blocks { HoldsBlocks size (blocks size (targets (column_or starts.now rows.now edited.0
-        replacement.now) row2col.now)) blockcols.old blockstarts.old
-        blockcols.new blockstarts.new result }
-    ensures same_work { SameWork size (entries size (column_or starts.now rows.now edited.0
-        replacement.now))
+    requires size_in_bounds { (form_need mat.now.mat.size ≤ length blockcols.old)
+        × (starts_need mat.now.mat.size ≤ length blockstarts.old) }
+    ensures holds_blocks { HoldsBlocks mat.now.mat.size (blocks mat.now.mat.size (targets (edited_columns mat.now)
+        row2col.now)) blockcols.old blockstarts.old blockcols.new blockstarts.new result }
+    ensures same_work { SameWork mat.now.mat.size (entries mat.now.mat.size (edited_columns mat.now))
         (work visited.old cheap.old finished.old col2row.old backstarts.old
         backrows.old scol.old sat.old)
         (work visited.new cheap.new finished.new col2row.new backstarts.new
         backrows.new scol.new sat.new) }
 {
+    let size = mat.mat.size;
     clear(visited, size);
-    finish_columns(
-        size,
-        starts,
-        rows,
-        edited,
-        replacement,
-        row2col,
-        visited,
-        scol,
-        sat,
-        blockcols,
-        finished,
-    );
-    invert_matching(size, row2col, col2row);
-    reverse_graph(
-        size,
-        starts,
-        rows,
-        edited,
-        replacement,
-        row2col,
-        col2row,
-        backstarts,
-        backrows,
-    );
+    finish_columns(mat, row2col, visited, scol, sat, blockcols, finished);
+    invert::<OriginalRow, Column>(size, row2col, col2row);
+    reverse_graph(mat, row2col, col2row, backstarts, backrows);
     cut_matched(
         size,
         backstarts,

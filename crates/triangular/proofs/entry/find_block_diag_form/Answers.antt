@@ -1,100 +1,63 @@
 -- `find_block_diag_form` meets its contract: a refusal of the early checks, or what is formed with the workspace cleared, is the outcome.
-use native.Mathlib.Omega.{arith}
-use Prim.Native.Nat.{ℕ}
-use mathlib.Core.Path.{◌≡◌, sym, ap, ◌∙◌}
-use mathlib.Core.List.{List}
-use lib.ListN.{length}
-use lib.Dec.{ltb}
-use Rattle.sparse.specs.Refusals.{Buffer, first_refusal, early}
-use Rattle.sparse.specs.declared.Checked.TheVariants as checked
-use Rattle.sparse.specs.declared.Checked.{Checked}
-use Rattle.sparse.proofs.Early.{Early, early_passed}
-use Rattle.triangular.specs.Outcome.{Lent, work, outputs, lent, buffers, work_buffers, output_buffers}
+use Rattle.std.proofs.Common.{ℕ, Err, sym, ap, ◌∙◌, length, ltb}
+use Rattle.std.proofs.lemmas.Result.{err_from_is_err_and}
+use Rattle.sparse.specs.Refusals.{checked}
+use Rattle.sparse.proofs.Early.{early_passed}
+use Rattle.triangular.specs.Outcome.{BlockAnswer, work, outputs, lent, buffers, ended, work_buffers, output_buffers}
 use Rattle.triangular.proofs.Room.{work_kept, roomy_split}
 use Rattle.triangular.proofs.Outcome.{early_outcome, outcome_means}
 use Rattle.triangular.proofs.Valid.{tested_exit}
 use Rattle.triangular.proofs.entry.find_block_diag_form.Goals as goal
 
-pub returns-in-Refused : goal.returns-in-Refused
-returns-in-Refused c =
-    -- what is lent, its buffers, and what the early checks say of them
-    let lent_at : Lent = lent (work c.args.visited.now c.args.cheap.now c.args.finished.now c.args.col2row.now c.args.backstarts.now
+pub returns-in_err-mat : goal.returns-in_err-mat
+returns-in_err-mat c =
+    let l = lent (work c.args.visited.now c.args.cheap.now c.args.finished.now c.args.col2row.now c.args.backstarts.now
     c.args.backrows.now c.args.scol.now c.args.sat.now)
     (outputs c.args.row2col.now c.args.hall.now c.args.blockcols.now c.args.blockstarts.now) in
-    let buffers_at : List Buffer = buffers c.args.size (length c.args.rows.now) lent_at in
-    let early_at : Checked = first_refusal (early c.args.size c.args.starts.now c.args.rows.now buffers_at) in
-    let found : c.check_early-first.result ≡ early_at = c.check_early-first.ensures buffers_at (c.lacks_room-short.ensures c.args.backrows.now
-    (length c.args.rows.now) (ap (λ (t : ℕ). ltb (length c.args.backrows.now) t) c.entries_need.ensures)) in
-    let e = early_outcome c.args.size c.args.starts.now c.args.rows.now lent_at _
-    (sym found ∙ c.in-Refused.is) in record {
-      outcome = e;
-      meaning = outcome_means c.args.size c.args.starts.now c.args.rows.now lent_at _ _ e;
-    }
+    let few = ap (λ (t : ℕ). ltb (length c.args.backrows.now) t) c.entries_need.ensures in
+    let found = c.check_early.ensures.value (buffers c.args.size (length c.args.rows.now) l)
+    (c.lacks_room-short.ensures c.args.backrows.now (length c.args.rows.now) few) in
+    let p = err_from_is_err_and c.from_residual.result c.from_residual.ensures.1 in
+    let e = ap (λ (a : BlockAnswer). ended a l) (p.1 ∙ ap (λ r. Err r) p.2)
+    ∙ early_outcome _ _ _ l _ (sym found ∙ ap checked c.in_err-mat.was) in
+    record { outcome = e; meaning = outcome_means _ _ _ l _ _ e }
 
 pub block_tested-answer-requires : goal.block_tested-answer-requires
 block_tested-answer-requires c =
-    -- what is lent, its buffers, and what the early checks say of them
-    let lent_at : Lent = lent (work c.args.visited.now c.args.cheap.now c.args.finished.now c.args.col2row.now c.args.backstarts.now
+    let l = lent (work c.args.visited.now c.args.cheap.now c.args.finished.now c.args.col2row.now c.args.backstarts.now
     c.args.backrows.now c.args.scol.now c.args.sat.now)
     (outputs c.args.row2col.now c.args.hall.now c.args.blockcols.now c.args.blockstarts.now) in
-    let buffers_at : List Buffer = buffers c.args.size (length c.args.rows.now) lent_at in
-    let early_at : Checked = first_refusal (early c.args.size c.args.starts.now c.args.rows.now buffers_at) in
-    let found : c.check_early-first.result ≡ early_at = c.check_early-first.ensures buffers_at (c.lacks_room-short.ensures c.args.backrows.now
-    (length c.args.rows.now) (ap (λ (t : ℕ). ltb (length c.args.backrows.now) t) c.entries_need.ensures)) in
-    let none_refused : early_at ≡ checked.Passed = sym found ∙ c.in_default.is in
-    let passed : (Early c.args.size c.args.starts.now c.args.rows.now buffers_at) = early_passed c.args.size c.args.starts.now c.args.rows.now buffers_at
-    none_refused in record {
-      shaped = (passed.shaped, passed.below);
-      roomy = passed.room;
-    }
+    let few = ap (λ (t : ℕ). ltb (length c.args.backrows.now) t) c.entries_need.ensures in
+    let found = c.check_early.ensures.value (buffers c.args.size (length c.args.rows.now) l)
+    (c.lacks_room-short.ensures c.args.backrows.now (length c.args.rows.now) few) in
+    let mat = c.in_ok-mat.ensures in
+    rw (mat.size, mat.rows) (early_passed _ _ _ _ (sym found ∙ ap checked c.in_ok-mat.was)).room
 
-pub overflow_cast-rows : goal.overflow_cast-rows
-overflow_cast-rows c =
-    -- what is lent, its buffers, and what the early checks say of them
-    let lent_at : Lent = lent (work c.args.visited.now c.args.cheap.now c.args.finished.now c.args.col2row.now c.args.backstarts.now
-    c.args.backrows.now c.args.scol.now c.args.sat.now)
-    (outputs c.args.row2col.now c.args.hall.now c.args.blockcols.now c.args.blockstarts.now) in
-    let buffers_at : List Buffer = buffers c.args.size (length c.args.rows.now) lent_at in
-    let early_at : Checked = first_refusal (early c.args.size c.args.starts.now c.args.rows.now buffers_at) in
-    let found : c.check_early-first.result ≡ early_at = c.check_early-first.ensures buffers_at (c.lacks_room-short.ensures c.args.backrows.now
-    (length c.args.rows.now) (ap (λ (t : ℕ). ltb (length c.args.backrows.now) t) c.entries_need.ensures)) in
-    let none_refused : early_at ≡ checked.Passed = sym found ∙ c.in_default.is in
-    let passed : (Early c.args.size c.args.starts.now c.args.rows.now buffers_at) = early_passed c.args.size c.args.starts.now c.args.rows.now buffers_at
-    none_refused in
-    omega (arith, passed.shaped.few)
-
-pub clear_work-requires : goal.clear_work-requires
-clear_work-requires c =
-    -- what is lent, its buffers, and what the early checks say of them
-    let lent_at : Lent = lent (work c.args.visited.now c.args.cheap.now c.args.finished.now c.args.col2row.now c.args.backstarts.now
-    c.args.backrows.now c.args.scol.now c.args.sat.now)
-    (outputs c.args.row2col.now c.args.hall.now c.args.blockcols.now c.args.blockstarts.now) in
-    let buffers_at : List Buffer = buffers c.args.size (length c.args.rows.now) lent_at in
-    let early_at : Checked = first_refusal (early c.args.size c.args.starts.now c.args.rows.now buffers_at) in
-    let found : c.check_early-first.result ≡ early_at = c.check_early-first.ensures buffers_at (c.lacks_room-short.ensures c.args.backrows.now
-    (length c.args.rows.now) (ap (λ (t : ℕ). ltb (length c.args.backrows.now) t) c.entries_need.ensures)) in
-    let none_refused : early_at ≡ checked.Passed = sym found ∙ c.in_default.is in
-    let passed : (Early c.args.size c.args.starts.now c.args.rows.now buffers_at) = early_passed c.args.size c.args.starts.now c.args.rows.now buffers_at
-    none_refused in record {
-      size_le_max_size = passed.shaped.small;
-      roomy = work_kept c.args.size (length c.args.rows.now) lent_at.inner (work c.block_tested-answer.new.visited c.block_tested-answer.new.cheap c.block_tested-answer.new.finished c.block_tested-answer.new.col2row c.block_tested-answer.new.backstarts
-          c.block_tested-answer.new.backrows c.block_tested-answer.new.scol c.block_tested-answer.new.sat) c.block_tested-answer.auto.visited c.block_tested-answer.auto.cheap c.block_tested-answer.auto.finished c.block_tested-answer.auto.col2row
-          c.block_tested-answer.auto.backstarts c.block_tested-answer.auto.backrows c.block_tested-answer.auto.scol c.block_tested-answer.auto.sat
-          (roomy_split (work_buffers c.args.size (length c.args.rows.now) lent_at.inner)
-          (output_buffers c.args.size lent_at.outer) passed.room).0;
-    }
+pub clear_work-requires-clause-roomy : goal.clear_work-requires-clause-roomy
+clear_work-requires-clause-roomy c =
+    let w = work c.args.visited.now c.args.cheap.now c.args.finished.now c.args.col2row.now c.args.backstarts.now c.args.backrows.now
+    c.args.scol.now c.args.sat.now in
+    let o = outputs c.args.row2col.now c.args.hall.now c.args.blockcols.now c.args.blockstarts.now in
+    let few = ap (λ (t : ℕ). ltb (length c.args.backrows.now) t) c.entries_need.ensures in
+    let found = c.check_early.ensures.value (buffers c.args.size (length c.args.rows.now) (lent w o))
+    (c.lacks_room-short.ensures c.args.backrows.now (length c.args.rows.now) few) in
+    let room = (early_passed _ _ _ _ (sym found ∙ ap checked c.in_ok-mat.was)).room in
+    let kept = c.block_tested-answer.auto in
+    work_kept c.args.size (length c.args.rows.now) w (work _ _ _ _ _ _ _ _) kept.visited kept.cheap kept.finished kept.col2row
+    kept.backstarts kept.backrows kept.scol kept.sat
+    (roomy_split (work_buffers c.args.size (length c.args.rows.now) w) (output_buffers c.args.size o) room).0
 
 pub returns : goal.returns
 returns c =
-    -- what is lent, its buffers, and what the early checks say of them
-    let lent_at : Lent = lent (work c.args.visited.now c.args.cheap.now c.args.finished.now c.args.col2row.now c.args.backstarts.now
+    let l = lent (work c.args.visited.now c.args.cheap.now c.args.finished.now c.args.col2row.now c.args.backstarts.now
     c.args.backrows.now c.args.scol.now c.args.sat.now)
     (outputs c.args.row2col.now c.args.hall.now c.args.blockcols.now c.args.blockstarts.now) in
-    let buffers_at : List Buffer = buffers c.args.size (length c.args.rows.now) lent_at in
-    let early_at : Checked = first_refusal (early c.args.size c.args.starts.now c.args.rows.now buffers_at) in
-    let found : c.check_early-first.result ≡ early_at = c.check_early-first.ensures buffers_at (c.lacks_room-short.ensures c.args.backrows.now
-    (length c.args.rows.now) (ap (λ (t : ℕ). ltb (length c.args.backrows.now) t) c.entries_need.ensures)) in
-    let none_refused : early_at ≡ checked.Passed = sym found ∙ c.in_default.is in record {
-      outcome = (tested_exit c.args.size c.args.starts.now c.args.rows.now lent_at (work _ _ _ _ _ _ _ _) (outputs _ _ _ _) _ none_refused (c.clear_work.ensures ∙ c.block_tested-answer.ensures.sat_unchanged) c.block_tested-answer.ensures.blockstarts_after).0;
-      meaning = (tested_exit c.args.size c.args.starts.now c.args.rows.now lent_at (work _ _ _ _ _ _ _ _) (outputs _ _ _ _) _ none_refused (c.clear_work.ensures ∙ c.block_tested-answer.ensures.sat_unchanged) c.block_tested-answer.ensures.blockstarts_after).1;
-    }
+    let few = ap (λ (t : ℕ). ltb (length c.args.backrows.now) t) c.entries_need.ensures in
+    let found = c.check_early.ensures.value (buffers c.args.size (length c.args.rows.now) l)
+    (c.lacks_room-short.ensures c.args.backrows.now (length c.args.rows.now) few) in
+    let mat = c.in_ok-mat.ensures in
+    let same = rw (mat.size, mat.rows) at c.block_tested-answer.ensures.sat_unchanged in
+    let gives = rw (mat.size, mat.starts, mat.rows) at c.block_tested-answer.ensures.blockstarts_after in
+    let e = tested_exit _ _ _ l (work _ _ _ _ _ _ _ _) (outputs _ _ _ _) _ (sym found ∙ ap checked c.in_ok-mat.was)
+    (c.clear_work.ensures ∙ same) gives in
+    record { outcome = e.0; meaning = e.1 }

@@ -7,19 +7,19 @@ use Rattle.triangular.proofs.matched.block_matched.Goals as goal
 
 pub reverse_graph-requires-clause-inverse : goal.reverse_graph-requires-clause-inverse
 reverse_graph-requires-clause-inverse c =
-    (inverse-filled _ c.args.col2row.now c.requires.reversible.0.permutes c.invert_matching.ensures, omega (arith, c.requires.roomy.1.1.1.0, c.invert_matching.auto))
+    (inverse-filled _ c.args.col2row.now c.requires.reversible.0.permutes c.invert.ensures, omega (arith, c.requires.roomy.1.1.1.0, c.invert.auto))
 
 pub cut_matched-requires-clause-size_in_bounds : goal.cut_matched-requires-clause-size_in_bounds
 cut_matched-requires-clause-size_in_bounds c = (
   omega (arith, c.requires.roomy.1.1.1.1.0, c.reverse_graph.auto),
   omega (arith, c.requires.roomy.1.1.1.1.1.0, c.reverse_graph.auto, c.reverse_graph.ensures.to_end),
-  second_shaped c.requires.shaped.small (reverse_room c.requires.reversible.1 (omega (arith, c.requires.roomy.1.1.1.1.0, c.reverse_graph.auto))
+  second_shaped c.args.mat.now.mat.shaped.small (reverse_room c.requires.reversible.1 (omega (arith, c.requires.roomy.1.1.1.1.0, c.reverse_graph.auto))
       (omega (arith, c.requires.roomy.1.1.1.1.1.0, c.reverse_graph.auto))) c.reverse_graph.ensures,
 )
 
 pub cut_matched-requires-clause-pass_ready : goal.cut_matched-requires-clause-pass_ready
 cut_matched-requires-clause-pass_ready c =
-    second_ready c.requires.shaped.small c.requires.reversible.0 (inverse-filled _ c.args.col2row.now c.requires.reversible.0.permutes c.invert_matching.ensures) (reverse_room c.requires.reversible.1 (omega (arith, c.requires.roomy.1.1.1.1.0, c.reverse_graph.auto))
+    second_ready c.args.mat.now.mat.shaped.small c.requires.reversible.0 (inverse-filled _ c.args.col2row.now c.requires.reversible.0.permutes c.invert.ensures) (reverse_room c.requires.reversible.1 (omega (arith, c.requires.roomy.1.1.1.1.0, c.reverse_graph.auto))
     (omega (arith, c.requires.roomy.1.1.1.1.1.0, c.reverse_graph.auto)))
     c.reverse_graph.ensures c.finish_columns.ensures.finished
     (omega (arith, c.requires.roomy.0, c.clear.auto, c.finish_columns.auto))
@@ -35,7 +35,7 @@ cut_matched-requires-clause-cut_ready c =
 
 pub returns-clause-holds_blocks : goal.returns-clause-holds_blocks
 returns-clause-holds_blocks c =
-    matched_holds c.requires.shaped.small c.requires.reversible.0 (inverse-filled _ c.args.col2row.now c.requires.reversible.0.permutes c.invert_matching.ensures) (reverse_room c.requires.reversible.1 (omega (arith, c.requires.roomy.1.1.1.1.0, c.reverse_graph.auto))
+    matched_holds c.args.mat.now.mat.shaped.small c.requires.reversible.0 (inverse-filled _ c.args.col2row.now c.requires.reversible.0.permutes c.invert.ensures) (reverse_room c.requires.reversible.1 (omega (arith, c.requires.roomy.1.1.1.1.0, c.reverse_graph.auto))
     (omega (arith, c.requires.roomy.1.1.1.1.1.0, c.reverse_graph.auto)))
     c.reverse_graph.ensures c.finish_columns.ensures.finished c.finish_columns.ensures.same_from.entered_beyond
     c.cut_matched.ensures.holds_blocks
@@ -43,5 +43,5 @@ returns-clause-holds_blocks c =
 pub returns-clause-same_work : goal.returns-clause-same_work
 returns-clause-same_work c =
     matched_same c.clear.ensures c.finish_columns.ensures.same_from
-    c.invert_matching.ensures c.reverse_graph.ensures
+    c.invert.ensures c.reverse_graph.ensures
     c.cut_matched.ensures.same_from
