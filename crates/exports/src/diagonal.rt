@@ -1,8 +1,10 @@
 // The matching of rows to columns, for C.
 ghost use Rattle.std.specs.Prelude.{◌≡◌};
-ghost use Rattle.matching.specs.Outcome.{lent, outcome, number_of, place_of};
+ghost use Rattle.sparse.specs.Refusals.{number_of, place_of};
+ghost use Rattle.matching.specs.Outcome.{lent, outcome};
 
-use matching::MatchingAnswer;
+use matching::SearchWork;
+use sparse::refusal::number_and_place;
 
 // matching::find_diag_matching.
 #[unsafe(no_mangle)]
@@ -30,13 +32,14 @@ pub extern "C" fn dechvorim_find_diag_matching(
         (lent visited.old cheap.old scol.old sat.old
         row2col.old hall.old)).after }
 {
-    let answer = matching::find_diag_matching(
-        size, starts, rows, visited, cheap, scol, sat, row2col, hall,
-    );
-    if let MatchingAnswer::Refused(r) = answer {
-        *place = r.place;
-        return r.number;
-    }
-    *place = 0;
-    0
+    let mut work = SearchWork {
+        visited,
+        cheap,
+        scol,
+        sat,
+    };
+    let answer = matching::find_diag_matching(size, starts, rows, &mut work, row2col, hall);
+    let (number, at) = number_and_place(answer);
+    *place = at;
+    number
 }

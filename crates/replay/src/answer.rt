@@ -2,10 +2,8 @@
 ghost use Rattle.std.specs.Prelude.{◌≤◌, length};
 
 use super::lists::{Numbers, zeros};
-use matching::MatchingAnswer;
-use ordering::OrderAnswer;
 use sparse::Refusal;
-use triangular::BlockAnswer;
+use sparse::refusal::number_and_place;
 
 // The refusals that leave every buffer as it is.
 const TOO_LARGE: u32 = 1;
@@ -38,11 +36,6 @@ pub struct Answer {
     place: u32,
 }
 
-const ACCEPTED: Answer = Answer {
-    number: 0,
-    place: 0,
-};
-
 impl Answer {
     pub fn read<'a>(numbers: &mut Numbers<'a>) -> Option<Answer>
         ensures { length numbers.new.rest.now ≤ length numbers.old.rest.now }
@@ -72,37 +65,14 @@ impl Answer {
     }
 }
 
-impl From<Refusal> for Answer {
-    fn from(refusal: Refusal) -> Answer {
-        Answer {
-            number: refusal.number,
-            place: refusal.place,
-        }
-    }
-}
-
-impl From<OrderAnswer> for Answer {
-    fn from(answer: OrderAnswer) -> Answer {
-        match answer {
-            OrderAnswer::Accepted => ACCEPTED,
-            OrderAnswer::Refused(refusal) => Answer::from(refusal),
-        }
-    }
-}
-
-impl From<MatchingAnswer> for Answer {
-    fn from(answer: MatchingAnswer) -> Answer {
-        match answer {
-            MatchingAnswer::Accepted => ACCEPTED,
-            MatchingAnswer::Refused(refusal) => Answer::from(refusal),
-        }
+impl From<Result<(), Refusal>> for Answer {
+    fn from(answer: Result<(), Refusal>) -> Answer {
+        let (number, place) = number_and_place(answer);
+        Answer { number, place }
     }
 }
 
 // The answer and its count of blocks, which is 0 without an acceptance.
-pub fn with_count(answer: BlockAnswer) -> (Answer, u32) {
-    match answer {
-        BlockAnswer::Accepted(count) => (ACCEPTED, count),
-        BlockAnswer::Refused(refusal) => (Answer::from(refusal), 0),
-    }
+pub fn with_count(answer: Result<u32, Refusal>) -> (Answer, u32) {
+    (Answer::from(answer.map(|_| ())), answer.unwrap_or(0))
 }

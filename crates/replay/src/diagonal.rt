@@ -5,6 +5,7 @@ ghost use Rattle.std.specs.Prelude.{◌≤◌, length};
 use super::answer::{Answer, Outcome};
 use super::lists::{JUNK, LENT, Numbers, any_differs, differs, zeros};
 use super::pattern::Pattern;
+use matching::SearchWork;
 
 // What row2col and hall hold afterwards: one of them the stored list, the other zero, and after other refusals neither is written.
 #[derive(Drop)]
@@ -50,14 +51,17 @@ impl<'a> Diagonal<'a> {
         let mut sat = [JUNK; LENT];
         let mut row2col = [JUNK; LENT];
         let mut hall = [JUNK; LENT];
+        let mut search = SearchWork {
+            visited: &mut visited,
+            cheap: &mut cheap,
+            scol: &mut scol,
+            sat: &mut sat,
+        };
         let answer = matching::find_diag_matching(
             self.pattern.size,
             self.pattern.starts,
             self.pattern.rows,
-            &mut visited,
-            &mut cheap,
-            &mut scol,
-            &mut sat,
+            &mut search,
             &mut row2col,
             &mut hall,
         );

@@ -7,7 +7,7 @@ use super::diagonal::Diagonal;
 use super::lent::Lent;
 use super::lists::{Numbers, any_differs, differs, zeros};
 use super::pattern::Pattern;
-use triangular::BlockAnswer;
+use sparse::Refusal;
 
 // How many blocks there are, and what blockcols and blockstarts hold afterwards.
 #[derive(Clone, Copy)]
@@ -73,7 +73,7 @@ impl<'a> Form<'a> {
     // workspace, and what row2col is to hold.
     pub fn is_answered(
         &self,
-        answer: BlockAnswer,
+        answer: Result<u32, Refusal>,
         lent: &Lent,
         back: usize,
         row2col: &[u32],

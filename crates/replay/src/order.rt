@@ -4,6 +4,7 @@ ghost use Rattle.std.specs.Prelude.{◌≤◌, length};
 use super::answer::{Answer, Outcome};
 use super::lists::{JUNK, LENT, Numbers, any_differs, differs};
 use super::pattern::Pattern;
+use ordering::OrderBuffers;
 
 #[derive(Drop)]
 pub struct Order<'a> {
@@ -41,16 +42,19 @@ impl<'a> Order<'a> {
         let mut marks = [JUNK; LENT];
         let mut new2orig = [JUNK; LENT];
         let mut orig2new = [JUNK; LENT];
+        let mut lent = OrderBuffers {
+            score2head: &mut score2head,
+            prev: &mut prev,
+            next: &mut next,
+            marks: &mut marks,
+            new2orig: &mut new2orig,
+            orig2new: &mut orig2new,
+        };
         let answer = ordering::order_simple(
             self.pattern.size,
             self.pattern.starts,
             self.pattern.rows,
-            &mut score2head,
-            &mut prev,
-            &mut next,
-            &mut marks,
-            &mut new2orig,
-            &mut orig2new,
+            &mut lent,
         );
         let work = self.answer.work(self.pattern.columns());
         Answer::from(answer) == self.answer
