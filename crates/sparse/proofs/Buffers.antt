@@ -1,11 +1,8 @@
 -- Laws of a lent buffer whose front is zeroed or filled: its length, and what stands where.
-use Prim.Native.Nat.{ℕ, zero, suc, ◌+◌, ◌-◌, ◌<◌, ◌≤◌}
-use mathlib.Core.Path.{◌≡◌, refl, sym, ap, ◌∙◌}
-use mathlib.Core.List.{List, [], ◌∷◌, ◌++◌}
-use native.Mathlib.Omega.{arith}
-use lib.ListN.{length, get_or, set, take, drop, replicate, length-append, length-drop, length-replicate, get_or-replicate, get_or-append}
-use lib.ListN.{take-append-drop}
-use lib.Seq.{drop_at, get_or-append-add, get_or-drop, length-take-le}
+use Rattle.std.proofs.Common.{ℕ, zero, suc, ◌+◌, ◌-◌, ◌<◌, ◌≤◌, ◌≡◌, refl, sym, ap, ◌∙◌, List, [], ◌∷◌, ◌++◌, arith, length, get_or}
+use Rattle.std.proofs.Common.{set, take, drop, replicate, length-append, length-drop, take-append-drop, drop_at, get_or-append-add}
+use Rattle.std.proofs.Common.{get_or-drop, length-take-le}
+use lib.ListN.{length-replicate, get_or-replicate, get_or-append}
 use Rattle.graph.specs.Lists.{table}
 use Rattle.graph.proofs.Lists.{length-table}
 use Rattle.sparse.specs.Buffers.{zeroed, filled}

@@ -1,15 +1,9 @@
 -- That 5 comes before 3; what 1, 2, 5 and 3 let through, and that they let it through.
-use Prim.Native.Nat.{ℕ, ◌≤◌}
-use mathlib.Core.Path.{◌≡◌, sym, ◌∙◌}
-use mathlib.Core.Logic.{⊎_elim}
-use mathlib.Core.List.{List, [], ◌∷◌}
-use mathlib.Core.Bool.{true}
+use Rattle.std.proofs.Common.{ℕ, ◌≤◌, ◌≡◌, sym, ◌∙◌, ⊎_elim, List, [], ◌∷◌, true, arith, Err}
 use Rattle.sparse.specs.Matrix.{Shaped, RowsBelow}
-use native.Mathlib.Omega.{arith}
 use Rattle.sparse.specs.declared.refusal.Refusal.TheVariants.{TooLarge, Misshapen, RowOutside, RepeatedRow, NoRoom}
 use Rattle.sparse.specs.Refusals.{passed, number, refused_if, first_refusal, Buffer, one_short, no_room, Roomy, early}
 use Rattle.sparse.specs.Refusals.{too_large, misshapen, row_outside, repeated_row}
-use Rattle.std.specs.Prelude.{Err}
 use Rattle.sparse.specs.declared.refusal.Refusal.{Refusal}
 use Rattle.sparse.proofs.Refusals.{first_passed, first_last, head_passed, tail_passed, which, number_if, number_at}
 use Rattle.sparse.proofs.Room.{room_head, room_tail}

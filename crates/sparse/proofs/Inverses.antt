@@ -1,11 +1,7 @@
 -- The loop that writes the place of each column: after i turns the first i columns have theirs.
-use Prim.Native.Nat.{ℕ, ◌+◌, ◌<◌, ◌≤◌}
-use mathlib.Core.Path.{◌≡◌, refl, sym, ap, ◌∙◌}
-use mathlib.Core.List.{List}
+use Rattle.std.proofs.Common.{ℕ, ◌+◌, ◌<◌, ◌≤◌, ◌≡◌, refl, sym, ap, ◌∙◌, List, arith, length, get_or, set, length-set, ext_get_or}
+use Rattle.std.proofs.Common.{get_or-set_same, get_or-set_other}
 use native.Mathlib.Decide.{ℕ_discrete, dec_lt}
-use native.Mathlib.Omega.{arith}
-use lib.ListN.{length, get_or, set, length-set}
-use lib.Seq.{ext_get_or, get_or-set_same, get_or-set_other}
 use Rattle.graph.specs.Permutations.{Permutes, inverse}
 use Rattle.graph.proofs.Permutations.{length-inverse, inverse_only}
 use Rattle.sparse.specs.Buffers.{filled}

@@ -1,9 +1,7 @@
 -- Marks at the rows of a column, and their removal.
 use Rattle.std.proofs.Common.{ℕ, zero, suc, ◌+◌, ◌<◌, ◌≤◌, ◌≡◌, refl, sym, ap, ◌∙◌, List, ◌⊎◌, inl, inr, arith, length, get_or, set}
+use Rattle.std.proofs.Common.{add-one, length-set, get_or-set_same, get_or-set_other, ext_get_or}
 use native.Mathlib.Decide.{ℕ_discrete}
-use native.Mathlib.Numerals.{add-one}
-use lib.ListN.{length-set}
-use lib.Seq.{get_or-set_same, get_or-set_other, ext_get_or}
 use Rattle.sparse.specs.Parts.{marked}
 
 -- one turn of the loop marks the row at place k

@@ -1,18 +1,12 @@
 -- What passed checks say of a matrix.
-use Prim.Native.Nat.{ℕ, zero, suc, ◌+◌, ◌-◌, ◌<◌, ◌≤◌}
-use mathlib.Core.Path.{◌≡◌, sym, ◌∙◌, subst}
+use Rattle.std.proofs.Common.{ℕ, zero, suc, ◌+◌, ◌-◌, ◌<◌, ◌≤◌, ◌≡◌, sym, ◌∙◌, subst, List, [], ◌∷◌, not, ◌||◌, ◌⊎◌, inl, inr}
+use Rattle.std.proofs.Common.{eq-or-lt_of_le, le_of_suc-le-suc, add-one, arith, ltb-false, leb-false, eqb-true, ltb, eqb, length}
+use Rattle.std.proofs.Common.{get_or, take, drop, get_or-take, get_or-drop}
 use mathlib.Core.List.Memᴰ
-use mathlib.Core.List.{List, [], ◌∷◌}
-use mathlib.Core.Bool.{not, ◌||◌}
-use mathlib.Core.Logic.{◌⊎◌, inl, inr}
-use native.Mathlib.Nat.{eq-or-lt_of_le, le_of_suc-le-suc}
 use native.Mathlib.Decide.{dec_lt}
-use native.Mathlib.Numerals.{add-one}
-use native.Mathlib.Omega.{arith}
-use borrow.Author.Tests.{ltb-false, leb-false, eqb-true, not-false}
-use lib.Dec.{ltb, eqb}
-use lib.ListN.{length, get_or, take, drop, get_or-eq_default}
-use lib.Seq.{slice, length-slice, get_or-take, get_or-drop, take-nil, drop-nil}
+use borrow.Author.Tests.{not-false}
+use lib.ListN.{get_or-eq_default}
+use lib.Seq.{slice, length-slice, take-nil, drop-nil}
 use Rattle.graph.specs.Counting.{some}
 use Rattle.graph.specs.Lists.{Mem, Once}
 use Rattle.graph.specs.Matchings.{Row, Col, Entry, Inside}

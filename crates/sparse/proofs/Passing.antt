@@ -1,10 +1,6 @@
 -- A valid pattern passes: the other direction of what passed checks say.
-use Prim.Native.Nat.{ℕ, ◌+◌, ◌-◌, ◌<◌, ◌≤◌}
-use mathlib.Core.Path.{◌≡◌, refl, sym, ap, ◌∙◌}
-use mathlib.Core.List.{List, [], ◌∷◌}
-use native.Mathlib.Omega.{arith}
-use borrow.Author.Tests.{le-ltb, lt-leb, eq-eqb}
-use lib.ListN.{length, get_or}
+use Rattle.std.proofs.Common.{ℕ, ◌+◌, ◌-◌, ◌<◌, ◌≤◌, ◌≡◌, refl, sym, ap, ◌∙◌, List, [], ◌∷◌, arith, le-ltb, eq-eqb, length, get_or}
+use borrow.Author.Tests.{lt-leb}
 use Rattle.graph.specs.Lists.{Once}
 use Rattle.graph.specs.Matchings.{Col}
 use Rattle.graph.proofs.Bools.{is_false}

@@ -1,18 +1,11 @@
 -- Laws of a refusal, of its number and place, and of the first refusal of a list of checks.
-use Prim.Native.Nat.{ℕ, ◌<◌}
-use mathlib.Core.Path.{◌≡◌, refl, sym, ap}
-use mathlib.Core.List.{List, [], ◌∷◌, ◌++◌}
-use mathlib.Core.Bool.{Bool, true, false, cond}
-use mathlib.Core.Logic.{◌⊎◌, inl, inr}
-use native.Mathlib.Omega.{arith}
-use borrow.Author.Tests.{lt-ltb, le-ltb}
-use lib.Dec.{ltb}
+use Rattle.std.proofs.Common.{ℕ, ◌<◌, ◌≡◌, refl, sym, ap, List, [], ◌∷◌, ◌++◌, Bool, true, false, cond, ◌⊎◌, inl, inr, arith, lt-ltb}
+use Rattle.std.proofs.Common.{le-ltb, ltb, Ok, Err, Some, None}
 use Rattle.graph.specs.Counting.{first, some}
 use Rattle.graph.proofs.Bools.{is_false}
 use Rattle.graph.proofs.Counting.{first_at, first_none, first_le, some_first, some_is, some_false}
 use Rattle.sparse.specs.Refusals.{Checked, passed, number, refused_if, refused_at, first_refusal}
 use Rattle.sparse.specs.Parts.{found}
-use Rattle.std.specs.Prelude.{Ok, Err, Some, None}
 use Rattle.sparse.specs.declared.refusal.Refusal.{Refusal}
 
 -- ---- the first refusal of a list

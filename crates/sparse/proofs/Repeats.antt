@@ -1,11 +1,6 @@
 -- A repeated row in words: an earlier place with the same row, in the same column.
-use Prim.Native.Nat.{ℕ, ◌+◌, ◌<◌, ◌≤◌}
-use mathlib.Core.Path.{◌≡◌}
-use mathlib.Core.List.{List}
-use mathlib.Core.Bool.{Bool, true, ◌&&◌}
-use borrow.Author.Tests.{lt-ltb, le-leb, eq-eqb, eqb-true, leb-true, ltb-true}
-use lib.Dec.{eqb, leb, ltb}
-use lib.ListN.{get_or}
+use Rattle.std.proofs.Common.{ℕ, ◌+◌, ◌<◌, ◌≤◌, ◌≡◌, List, Bool, true, ◌&&◌, lt-ltb, le-leb, eq-eqb, eqb-true, leb-true, ltb-true, eqb}
+use Rattle.std.proofs.Common.{leb, ltb, get_or}
 use Rattle.graph.proofs.Bools.{and_left, and_right, and_both}
 use Rattle.graph.proofs.Counting.{some_at, some_is}
 use Rattle.sparse.specs.Refusals.{repeats_at, together}

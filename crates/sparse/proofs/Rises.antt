@@ -1,15 +1,7 @@
 -- Columns whose rows rise: where every fall from a row to the next is between two columns, no row repeats.
-use Prim.Native.Nat.{ℕ, zero, suc, ◌+◌, ◌-◌, ◌<◌, ◌≤◌}
-use mathlib.Core.Path.{◌≡◌, refl, sym, ap, ◌∙◌}
-use mathlib.Core.List.{List}
-use mathlib.Core.Bool.{Bool, true, false}
-use mathlib.Core.Logic.{◌⊎◌, inl, inr}
+use Rattle.std.proofs.Common.{ℕ, zero, suc, ◌+◌, ◌-◌, ◌<◌, ◌≤◌, ◌≡◌, refl, sym, ap, ◌∙◌, List, Bool, true, false, ◌⊎◌, inl, inr}
+use Rattle.std.proofs.Common.{add-one, arith, leb-false, lt-ltb, le-ltb, leb, length, get_or}
 use native.Mathlib.Decide.{dec_lt}
-use native.Mathlib.Numerals.{add-one}
-use native.Mathlib.Omega.{arith}
-use borrow.Author.Tests.{leb-false, lt-ltb, le-ltb}
-use lib.Dec.{leb}
-use lib.ListN.{length, get_or}
 use mir.Val.{bool_byte}
 use Rattle.graph.specs.Counting.{bit, count}
 use Rattle.graph.proofs.Bools.{is_false}

@@ -1,10 +1,5 @@
 -- The test of the lent buffers, one after the other, and what it says that they pass.
-use Prim.Native.Nat.{◌≤◌}
-use mathlib.Core.Path.{◌≡◌, refl}
-use mathlib.Core.List.{List, [], ◌∷◌}
-use mathlib.Core.Bool.{Bool, true, false, ◌||◌}
-use borrow.Author.Tests.{ltb-false}
-use lib.Dec.{ltb}
+use Rattle.std.proofs.Common.{◌≤◌, ◌≡◌, refl, List, [], ◌∷◌, Bool, true, false, ◌||◌, ltb-false, ltb}
 use Rattle.graph.proofs.Bools.{or_left, or_right}
 use Rattle.sparse.specs.declared.refusal.Refusal.TheVariants.{NoRoom}
 use Rattle.sparse.specs.Refusals.{passed, Buffer, one_short, no_room, refused_if}

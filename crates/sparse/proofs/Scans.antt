@@ -1,6 +1,6 @@
 -- The scan of a column for a repeated row: what one turn finds, and what the scans of all columns come to.
-use Rattle.std.proofs.Common.{ℕ, ◌+◌, ◌-◌, ◌<◌, ◌≤◌, ◌≡◌, sym, ap, ◌∙◌, List, true, false, ◌⊎◌, inl, inr, arith, length, get_or}
-use Rattle.std.specs.Prelude.{Option, Some, None, unwrap_or}
+use Rattle.std.proofs.Common.{ℕ, ◌+◌, ◌-◌, ◌<◌, ◌≤◌, ◌≡◌, sym, ap, ◌∙◌, List, true, false, ◌⊎◌, inl, inr, arith, length, get_or, Option}
+use Rattle.std.proofs.Common.{Some, None, unwrap_or}
 use native.Mathlib.Decide.{ℕ_discrete, dec_lt}
 use Rattle.graph.proofs.Bools.{is_false}
 use Rattle.sparse.specs.Matrix.{Shaped, column}

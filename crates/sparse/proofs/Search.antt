@@ -1,8 +1,5 @@
 -- A search that goes through all places, counted up as a loop counts it.
-use Prim.Native.Nat.{ℕ, ◌+◌}
-use mathlib.Core.Path.{◌≡◌, refl, sym, ◌∙◌}
-use mathlib.Core.Bool.{Bool, true, false, ◌||◌}
-use native.Mathlib.Numerals.{add-one}
+use Rattle.std.proofs.Common.{ℕ, ◌+◌, ◌≡◌, refl, sym, ◌∙◌, Bool, true, false, ◌||◌, add-one}
 use Rattle.graph.specs.Counting.{some}
 
 -- nothing is found below 0

@@ -1,5 +1,4 @@
-use Rattle.std.proofs.Common.{sym, ◌∙◌}
-use borrow.Author.Tests.{eqb-true}
+use Rattle.std.proofs.Common.{sym, ◌∙◌, eqb-true}
 use Rattle.sparse.proofs.Rises.{rise_apart}
 use Rattle.sparse.proofs.checks.all_rise.Goals as goal
 

@@ -1,5 +1,4 @@
-use Rattle.std.proofs.Common.{◌∙◌}
-use borrow.Author.Tests.{eq-eqb, ne_eqb}
+use Rattle.std.proofs.Common.{◌∙◌, eq-eqb, ne_eqb}
 use Rattle.sparse.specs.Refusals.{misshapen, refused_if}
 use Rattle.sparse.proofs.checks.check_shape.Goals as goal
 

@@ -1,5 +1,4 @@
-use Rattle.std.proofs.Common.{arith, sym, ◌∙◌}
-use borrow.Author.Count.{below_more}
+use Rattle.std.proofs.Common.{arith, sym, ◌∙◌, below_more}
 use Rattle.sparse.proofs.Refusals.{found_at, found_none}
 use Rattle.sparse.proofs.checks.first_below.Goals as goal
 
