@@ -1,12 +1,10 @@
 -- The reversed graph, cut to its length, is a pattern that a walk may be made in, and its graph is that of the parents.
-use Prim.Native.Nat.{ℕ, ◌+◌, ◌≤◌, ◌<◌}
-use mathlib.Core.Path.{◌≡◌, refl, sym, ap, ◌∙◌, subst, fun_ext}
+use Rattle.std.proofs.Common.{ℕ, ◌+◌, ◌≤◌, ◌<◌, ◌≡◌, refl, sym, ap, ◌∙◌, subst, List, [], ◌∷◌, map, arith, length, get_or, take, drop}
+use Rattle.std.proofs.Common.{get_or-take, length-take-le, take-take}
+use mathlib.Core.Path.{fun_ext}
 use mathlib.Core.List.Memᴰ
-use mathlib.Core.List.{List, [], ◌∷◌, map}
 use native.Mathlib.Decide.{dec_lt}
-use native.Mathlib.Omega.{arith}
-use lib.ListN.{length, get_or, take, drop}
-use lib.Seq.{slice, get_or-take, length-take-le, take-take}
+use lib.Seq.{slice}
 use Rattle.graph.specs.Lists.{Mem, elem, range}
 use Rattle.graph.specs.Matchings.{Row, Col, Pattern, Inside, partner}
 use Rattle.graph.specs.Permutations.{Inverse}

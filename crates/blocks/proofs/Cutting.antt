@@ -1,14 +1,13 @@
 -- The second pass cuts the columns into the blocks of the rule: what holds between two walks, and how it ends.
-use Prim.Native.Nat.{ℕ, zero, suc, ◌+◌, ◌-◌, ◌≤◌, ◌<◌}
-use mathlib.Core.Path.{◌≡◌, refl, sym, ap, ◌∙◌, subst}
-use mathlib.Core.Logic.{◌⊎◌, inl, inr, ◌↔◌, ◌≢◌, ⊎_elim}
-use mathlib.Core.Bool.{Bool, true, false, cond, false≢true}
-use mathlib.Core.List.{List, [], ◌∷◌, ◌++◌, reverse, reverse-cons, reverse-append, append-nil, append_assoc, flatten}
+use Rattle.std.proofs.Common.{ℕ, zero, suc, ◌+◌, ◌-◌, ◌≤◌, ◌<◌, ◌≡◌, refl, sym, ap, ◌∙◌, subst, ◌⊎◌, inl, inr, ◌↔◌, ◌≢◌, ⊎_elim, Bool}
+use Rattle.std.proofs.Common.{true, false, cond, List, [], ◌∷◌, ◌++◌, reverse, append-nil, append_assoc, arith, length, get_or, set}
+use Rattle.std.proofs.Common.{take, drop, replicate, length-append, take-suc, take_at}
+use mathlib.Core.Bool.{false≢true}
+use mathlib.Core.List.{reverse-cons, reverse-append, flatten}
 use mathlib.Core.List.Memᴰ
 use native.Mathlib.Decide.{ℕ_discrete}
-use native.Mathlib.Omega.{arith}
-use lib.ListN.{length, get_or, set, take, drop, replicate, length-append, length-replicate, length-reverse}
-use lib.Seq.{take-suc, take_at, set_at}
+use lib.ListN.{length-replicate, length-reverse}
+use lib.Seq.{set_at}
 use Rattle.graph.specs.Lists.{Mem, elem}
 use Rattle.graph.specs.Matchings.{Col, Pattern}
 use Rattle.graph.specs.Walks.{Walked, enter, finish, each, visit}

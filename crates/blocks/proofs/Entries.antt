@@ -1,11 +1,6 @@
 -- How many entries a matrix in storage has, as it stands and with one column replaced.
-use Prim.Native.Nat.{ℕ, zero, suc, ◌+◌, ◌≤◌, ◌<◌}
-use mathlib.Core.Path.{◌≡◌, sym, ap, ◌∙◌, subst}
-use mathlib.Core.Logic.{⊎_elim}
-use mathlib.Core.List.{List}
-use native.Mathlib.Nat.{eq-or-lt_of_le}
-use native.Mathlib.Omega.{arith}
-use lib.ListN.{length, get_or}
+use Rattle.std.proofs.Common.{ℕ, zero, suc, ◌+◌, ◌≤◌, ◌<◌, ◌≡◌, sym, ap, ◌∙◌, subst, ⊎_elim, List, eq-or-lt_of_le, arith, length}
+use Rattle.std.proofs.Common.{get_or}
 use Rattle.graph.specs.Matchings.{Row, Col}
 use Rattle.graph.proofs.Edits.{edited_same, edited_other}
 use Rattle.sparse.specs.Matrix.{column, column_or, width, Shaped}

@@ -1,9 +1,8 @@
 -- Blocks put into two slices are read back as they were, and if they are a block form, that is what stands there.
-use Prim.Native.Nat.{ℕ, zero, suc, ◌+◌, ◌-◌, ◌<◌, ◌≤◌}
-use mathlib.Core.Path.{◌≡◌, refl, ap, ◌∙◌}
-use mathlib.Core.List.{List, [], ◌∷◌, ◌++◌, map, flatten, append_assoc}
-use native.Mathlib.Omega.{arith}
-use lib.ListN.{length, get_or, drop, replicate, length-append, get_or-append}
+use Rattle.std.proofs.Common.{ℕ, zero, suc, ◌+◌, ◌-◌, ◌<◌, ◌≤◌, ◌≡◌, refl, ap, ◌∙◌, List, [], ◌∷◌, ◌++◌, map, append_assoc, arith}
+use Rattle.std.proofs.Common.{length, get_or, drop, replicate, length-append}
+use mathlib.Core.List.{flatten}
+use lib.ListN.{get_or-append}
 use lib.Seq.{slice, take-append-add, take-append_seam, drop-append_seam}
 use Rattle.graph.specs.Lists.{Mem, table, range}
 use Rattle.graph.specs.Matchings.{Col}

@@ -1,11 +1,6 @@
 -- The arms of a turn in the code's terms: the column c on top and its rows rs in hand, and each slice as a store has left it.
-use Prim.Native.Nat.{ℕ, suc, ◌+◌, ◌-◌, ◌≤◌, ◌<◌}
-use mathlib.Core.Path.{◌≡◌, sym, ap, ◌∙◌, subst}
-use mathlib.Core.Logic.{◌≢◌}
-use mathlib.Core.Bool.{Bool, true, false}
-use mathlib.Core.List.{List}
-use native.Mathlib.Omega.{arith}
-use lib.ListN.{length, get_or, set}
+use Rattle.std.proofs.Common.{ℕ, suc, ◌+◌, ◌-◌, ◌≤◌, ◌<◌, ◌≡◌, sym, ap, ◌∙◌, subst, ◌≢◌, Bool, true, false, List, arith, length, get_or}
+use Rattle.std.proofs.Common.{set}
 use Rattle.graph.specs.Lists.{Mem}
 use Rattle.graph.specs.Matchings.{Row, Col, Pattern}
 use Rattle.graph.proofs.Lists.{get_or_mem}

@@ -1,14 +1,8 @@
 -- The searches of all columns, one after the other, follow the rule: what holds between two, and how they end.
-use Prim.Native.Nat.{ℕ, suc, ◌+◌, ◌-◌, ◌<◌, ◌≤◌}
-use mathlib.Core.Path.{◌≡◌, refl, sym, ap, ◌∙◌, fun_ext}
-use mathlib.Core.Bool.{Bool, true, false}
-use mathlib.Core.List.{List, [], ◌∷◌}
-use mathlib.Core.Logic.{◌↔◌}
+use Rattle.std.proofs.Common.{ℕ, suc, ◌+◌, ◌-◌, ◌<◌, ◌≤◌, ◌≡◌, refl, sym, ap, ◌∙◌, Bool, true, false, List, [], ◌∷◌, ◌↔◌, arith, eq-eqb}
+use Rattle.std.proofs.Common.{ne_eqb, eqb, length, get_or, take, drop, Some, None}
+use mathlib.Core.Path.{fun_ext}
 use native.Mathlib.Decide.{ℕ_discrete}
-use native.Mathlib.Omega.{arith}
-use borrow.Author.Tests.{eq-eqb, ne_eqb}
-use lib.Dec.{eqb}
-use lib.ListN.{length, get_or, take, drop}
 use Rattle.graph.specs.Lists.{Mem, elem}
 use Rattle.graph.specs.Matchings.{Row, Col, Pattern, Inside}
 use Rattle.graph.specs.Paths.{Ending, failed, found, augment}
@@ -18,7 +12,6 @@ use Rattle.sparse.specs.Limits.{none, max_entries}
 use Rattle.sparse.specs.Matrix.{column, column_or, Shaped, RowsBelow}
 use Rattle.sparse.proofs.Matrix.{column_beyond, inside}
 use Rattle.sparse.specs.Refusals.{as_column}
-use Rattle.std.specs.Prelude.{Some, None}
 use Rattle.matching.specs.Work.{Stays, SameWork}
 use Rattle.matching.specs.declared.search.SearchWork.{SearchWork}
 use Rattle.matching.specs.Matching.{search, accepted, refused, match_from, matching}

@@ -1,15 +1,7 @@
 -- What is left of a search falls with each turn: columns not visited, the depth, and whether the column on top was visited.
-use Prim.Native.Nat.{ℕ, suc, ◌+◌, ◌-◌, ◌*◌, ◌≤◌, ◌<◌}
-use mathlib.Core.Path.{◌≡◌, sym, subst}
-use mathlib.Core.Logic.{◌≢◌, ⊎_elim}
-use mathlib.Core.Bool.{Bool, true, false, cond}
+use Rattle.std.proofs.Common.{ℕ, suc, ◌+◌, ◌-◌, ◌*◌, ◌≤◌, ◌<◌, ◌≡◌, sym, subst, ◌≢◌, ⊎_elim, Bool, true, false, cond, List, ◌∷◌, arith}
+use Rattle.std.proofs.Common.{eq-eqb, ne_eqb, eqb, get_or, set, get_or-set_same}
 use mathlib.Core.List.Memᴰ
-use mathlib.Core.List.{List, ◌∷◌}
-use native.Mathlib.Omega.{arith}
-use borrow.Author.Tests.{eq-eqb, ne_eqb}
-use lib.Dec.{eqb}
-use lib.ListN.{get_or, set}
-use lib.Seq.{get_or-set_same}
 use Rattle.graph.specs.Matchings.{Col}
 use Rattle.graph.proofs.Lists.{left, left_enter, elem_not}
 use Rattle.matching.specs.Parts.{col_at, Advance, back, down}

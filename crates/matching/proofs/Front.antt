@@ -1,11 +1,9 @@
 -- A search reads and moves only the first n numbers of a matching, so a longer slice serves as well as a list of n.
-use Prim.Native.Nat.{ℕ, zero, suc, ◌<◌}
-use mathlib.Core.Path.{◌≡◌, refl, sym, ap, ◌∙◌, fun_ext}
-use mathlib.Core.Bool.{Bool, true, false}
+use Rattle.std.proofs.Common.{ℕ, zero, suc, ◌<◌, ◌≡◌, refl, sym, ap, ◌∙◌, Bool, true, false, List, [], ◌∷◌, set, take, drop}
+use Rattle.std.proofs.Common.{drop-set-lt, get_or-take}
+use mathlib.Core.Path.{fun_ext}
 use mathlib.Core.List.Memᴰ
-use mathlib.Core.List.{List, [], ◌∷◌}
-use lib.ListN.{set, take, drop}
-use lib.Seq.{take-set-lt, drop-set-lt, get_or-take}
+use lib.Seq.{take-set-lt}
 use Rattle.graph.specs.Lists.{Mem, elem, keep}
 use Rattle.graph.specs.Matchings.{Row, Col, Pattern, Inside, partner}
 use Rattle.graph.specs.Paths.{Ending, failed, found, augment}

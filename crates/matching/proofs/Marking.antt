@@ -1,9 +1,5 @@
 -- The loop that marks the columns with a stamp: after c turns the first c columns are marked or not.
-use Prim.Native.Nat.{ℕ, ◌+◌, ◌<◌}
-use mathlib.Core.Path.{◌≡◌, ◌∙◌}
-use mathlib.Core.List.{List, ◌++◌}
-use lib.Dec.{eqb}
-use lib.ListN.{length, get_or, set, drop}
+use Rattle.std.proofs.Common.{ℕ, ◌+◌, ◌<◌, ◌≡◌, ◌∙◌, List, ◌++◌, eqb, length, get_or, set, drop}
 use Rattle.graph.specs.Counting.{bit}
 use Rattle.graph.specs.Lists.{table}
 use Rattle.graph.specs.Matchings.{Col}

@@ -1,12 +1,7 @@
 -- The matching rule decides: it ends with a perfect matching, or with a Hall set where there is none.
-use Prim.Native.Nat.{ℕ, zero, suc, ◌+◌, ◌≤◌, ◌<◌}
-use mathlib.Core.Path.{◌≡◌, refl}
-use mathlib.Core.Logic.{◌↔◌, ⊎_elim}
+use Rattle.std.proofs.Common.{ℕ, zero, suc, ◌+◌, ◌≤◌, ◌<◌, ◌≡◌, refl, ◌↔◌, ⊎_elim, List, [], eq-or-lt_of_le, arith, length, replicate}
 use mathlib.Core.List.Memᴰ
-use mathlib.Core.List.{List, []}
-use native.Mathlib.Nat.{eq-or-lt_of_le}
-use native.Mathlib.Omega.{arith}
-use lib.ListN.{length, replicate, length-replicate, get_or-replicate}
+use lib.ListN.{length-replicate, get_or-replicate}
 use Rattle.graph.specs.Hall.{HallSet}
 use Rattle.graph.specs.Lists.{Mem, elem}
 use Rattle.graph.specs.Matchings.{Row, Col, Pattern, Inside, Perfect, Partial, partner}

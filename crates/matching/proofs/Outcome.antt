@@ -1,14 +1,7 @@
 -- Each exit of `find_diag_matching`: what it returns and leaves is the outcome, and has the meaning.
-use Prim.Native.Nat.{ℕ, ◌+◌, ◌<◌, ◌≤◌}
-use mathlib.Core.Path.{◌≡◌, refl, sym, ap, ◌∙◌}
-use mathlib.Core.Bool.{Bool, true, false}
-use mathlib.Core.List.{List, ◌++◌}
-use mathlib.Core.Logic.{◌⊎◌, inl, inr}
-use native.Mathlib.Omega.{arith}
-use lib.Dec.{eqb}
-use lib.ListN.{length, get_or, take, drop, replicate, length-replicate}
-use lib.Seq.{drop_at, take_at}
-use Rattle.std.specs.Prelude.{Option, Some, None, IfSome, Ok, Err}
+use Rattle.std.proofs.Common.{ℕ, ◌+◌, ◌<◌, ◌≤◌, ◌≡◌, refl, sym, ap, ◌∙◌, Bool, true, false, List, ◌++◌, ◌⊎◌, inl, inr, arith, eqb}
+use Rattle.std.proofs.Common.{length, get_or, take, drop, replicate, drop_at, take_at, Option, Some, None, IfSome, Ok, Err}
+use lib.ListN.{length-replicate}
 use Rattle.graph.specs.Counting.{bit}
 use Rattle.graph.specs.Lists.{elem, table}
 use Rattle.graph.specs.Matchings.{Row, Col, Pattern, partner}

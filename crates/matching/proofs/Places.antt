@@ -1,14 +1,6 @@
 -- What a scan has found of the places that it has passed, and what that says of a column's rows.
-use Prim.Native.Nat.{ℕ, zero, suc, ◌+◌, ◌≤◌, ◌<◌}
-use mathlib.Core.Path.{◌≡◌, refl, sym, subst}
-use mathlib.Core.Logic.{⊎_elim}
-use mathlib.Core.Bool.{Bool, true, false}
-use mathlib.Core.List.{List, [], ◌∷◌}
-use native.Mathlib.Nat.{eq-or-lt_of_le, not-suc-le-zero, le_of_suc-le-suc}
-use native.Mathlib.Omega.{arith}
-use borrow.Author.Tests.{leb-true, leb-false}
-use lib.Dec.{leb}
-use lib.ListN.{length, get_or}
+use Rattle.std.proofs.Common.{ℕ, zero, suc, ◌+◌, ◌≤◌, ◌<◌, ◌≡◌, refl, sym, subst, ⊎_elim, Bool, true, false, List, [], ◌∷◌}
+use Rattle.std.proofs.Common.{eq-or-lt_of_le, not-suc-le-zero, le_of_suc-le-suc, arith, leb-true, leb-false, leb, length, get_or}
 use Rattle.graph.specs.Matchings.{Row, Col, partner}
 use Rattle.graph.proofs.Lists.{mem_get_or}
 use Rattle.graph.proofs.Search.{FirstFree, now, later, NoneFree}

@@ -1,14 +1,8 @@
 -- The search function searches as the relation of graph's proofs says, so what is proved of that relation holds of the function.
-use Prim.Native.Nat.{ℕ, zero, suc, ◌≤◌, ◌<◌}
-use mathlib.Core.Path.{◌≡◌, refl, sym, ◌∙◌}
-use mathlib.Core.Bool.{Bool, true, false}
+use Rattle.std.proofs.Common.{ℕ, zero, suc, ◌≤◌, ◌<◌, ◌≡◌, refl, sym, ◌∙◌, Bool, true, false, List, [], ◌∷◌, ◌++◌, ⊎_elim, arith}
+use Rattle.std.proofs.Common.{leb-true, leb-false, le-leb, leb, length}
 use mathlib.Core.List.Memᴰ
-use mathlib.Core.List.{List, [], ◌∷◌, ◌++◌}
-use mathlib.Core.Logic.{⊎_elim}
-use native.Mathlib.Omega.{arith}
-use borrow.Author.Tests.{leb-true, leb-false, le-leb, lt-leb}
-use lib.Dec.{leb}
-use lib.ListN.{length}
+use borrow.Author.Tests.{lt-leb}
 use Rattle.graph.specs.Lists.{Mem, Once, elem, keep}
 use Rattle.graph.specs.Matchings.{Row, Col, Pattern, Inside, partner}
 use Rattle.graph.specs.Paths.{Ending, failed, found, augment}

@@ -1,16 +1,9 @@
 -- Stamps for a set of columns, and slices of which only the first n numbers change.
-use Prim.Native.Nat.{ℕ, zero, suc, ◌≤◌, ◌<◌}
-use mathlib.Core.Path.{◌≡◌, refl, sym, ◌∙◌}
-use mathlib.Core.Logic.{◌≢◌, ◌↔◌, ⊎_elim}
-use mathlib.Core.Bool.{Bool, true, false, not}
+use Rattle.std.proofs.Common.{ℕ, zero, suc, ◌≤◌, ◌<◌, ◌≡◌, refl, sym, ◌∙◌, ◌≢◌, ◌↔◌, ⊎_elim, Bool, true, false, not, List, [], ◌∷◌}
+use Rattle.std.proofs.Common.{arith, eq-eqb, ne_eqb, eqb, length, get_or, set, drop, length-set, get_or-set_same, get_or-set_other}
+use Rattle.std.proofs.Common.{drop-set-lt}
 use mathlib.Core.List.Memᴰ
-use mathlib.Core.List.{List, [], ◌∷◌}
 use native.Mathlib.Decide.{ℕ_discrete}
-use native.Mathlib.Omega.{arith}
-use borrow.Author.Tests.{eq-eqb, ne_eqb}
-use lib.Dec.{eqb}
-use lib.ListN.{length, get_or, set, drop, length-set}
-use lib.Seq.{get_or-set_same, get_or-set_other, drop-set-lt}
 use Rattle.graph.specs.Lists.{Mem, elem}
 use Rattle.graph.specs.Counting.{count}
 use Rattle.graph.specs.Matchings.{Col}

@@ -1,11 +1,6 @@
 -- The loop of a search: what its slices hold at each turn, and that each arm of a turn keeps that.
-use Prim.Native.Nat.{ℕ, suc, ◌≤◌, ◌<◌}
-use mathlib.Core.Path.{◌≡◌, sym, ◌∙◌}
-use mathlib.Core.Logic.{◌≢◌}
-use mathlib.Core.Bool.{Bool, true, false, false≢true}
-use mathlib.Core.List.{List}
-use native.Mathlib.Omega.{arith}
-use lib.ListN.{length, get_or}
+use Rattle.std.proofs.Common.{ℕ, suc, ◌≤◌, ◌<◌, ◌≡◌, sym, ◌∙◌, ◌≢◌, Bool, true, false, List, arith, length, get_or}
+use mathlib.Core.Bool.{false≢true}
 use Rattle.graph.specs.Lists.{Mem, Once}
 use Rattle.graph.specs.Matchings.{Row, Col, Inside}
 use Rattle.graph.specs.Paths.{failed, found}

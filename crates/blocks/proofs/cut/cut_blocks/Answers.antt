@@ -1,4 +1,4 @@
-use native.Mathlib.Omega.{arith}
+use Rattle.std.proofs.Common.{arith}
 use Rattle.blocks.proofs.Cutting.{seconds_start, seconds_column, seconds_room, seconds_more, seconds_end}
 use Rattle.blocks.proofs.Passes.{pass_ready}
 use Rattle.blocks.proofs.cut.cut_blocks.Goals as goal

@@ -1,5 +1,5 @@
 -- `walk_new` meets its contract.
-use mathlib.Core.Path.{sym, ◌∙◌}
+use Rattle.std.proofs.Common.{sym, ◌∙◌}
 use Rattle.sparse.specs.Columns.{edited_columns}
 use Rattle.blocks.proofs.Passes.{walk_not}
 use Rattle.blocks.proofs.cut.walk_new.Goals as goal

@@ -3,9 +3,7 @@ use Rattle.blocks.proofs.Arms.{fall_enter, fall_again}
 use Rattle.blocks.proofs.Whole.{walk_begin, walk_done}
 use Rattle.matching.proofs.Arms.{in_hand, hand_short}
 use Rattle.sparse.specs.Columns.{edited_columns}
-use native.Mathlib.Omega.{arith}
-use mathlib.Core.Path.{sym, ◌∙◌}
-use Prim.Native.Nat.{◌+◌}
+use Rattle.std.proofs.Common.{arith, sym, ◌∙◌, ◌+◌}
 use Rattle.blocks.proofs.walk.walk.Goals as goal
 
 pub loop-depth-init : goal.loop-depth-init

@@ -3,7 +3,7 @@ use Rattle.blocks.proofs.Arms.{weight}
 use Rattle.blocks.proofs.Whole.{goal_of}
 use Rattle.blocks.proofs.Walking.{Walk}
 use Rattle.sparse.specs.Columns.{edited_columns}
-use lib.ListN.{get_or}
+use Rattle.std.proofs.Common.{get_or}
 use Rattle.blocks.proofs.walk.walk.Given as goal
 
 abbrev pub invariant-loop-depth : goal.invariant-loop-depth

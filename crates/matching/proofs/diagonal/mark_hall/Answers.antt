@@ -1,6 +1,5 @@
 use Rattle.graph.specs.Lists.{table}
-use mathlib.Core.Path.{refl}
-use native.Mathlib.Omega.{arith}
+use Rattle.std.proofs.Common.{refl, arith}
 use Rattle.matching.proofs.Marking.{marked_more}
 use Rattle.matching.proofs.diagonal.mark_hall.Goals as goal
 

@@ -2,9 +2,7 @@
 use Rattle.matching.specs.Matching.{matching}
 use Rattle.sparse.specs.Columns.{columns}
 use Rattle.sparse.specs.Limits.{none}
-use lib.ListN.{drop}
-use native.Mathlib.Omega.{arith}
-use mathlib.Core.Path.{◌∙◌, ap, sym}
+use Rattle.std.proofs.Common.{drop, arith, ◌∙◌, ap, sym}
 use Rattle.matching.specs.Outcome.{lent_by}
 use Rattle.matching.proofs.Outcome.{fresh, filled_beyond, failed_below}
 use Rattle.matching.proofs.Work.{stays_then}

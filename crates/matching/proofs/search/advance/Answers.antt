@@ -1,6 +1,6 @@
 -- `advance` meets its contract.
 use Rattle.matching.specs.Parts.{back, down}
-use native.Mathlib.Omega.{arith}
+use Rattle.std.proofs.Common.{arith}
 use Rattle.matching.proofs.search.advance.Goals as goal
 
 pub put-requires-then-next-col : goal.put-requires-then-next-col

@@ -1,8 +1,5 @@
 -- `col_at` meets its contract.
-use Prim.Native.Nat.{ℕ}
-use lib.ListN.{get_or}
-use mathlib.Core.Path.{◌∙◌, ap}
-use native.Mathlib.Omega.{arith}
+use Rattle.std.proofs.Common.{ℕ, get_or, ◌∙◌, ap, arith}
 use Rattle.matching.proofs.search.col_at.Goals as goal
 
 pub get-requires : goal.get-requires

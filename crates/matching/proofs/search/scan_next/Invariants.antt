@@ -1,8 +1,6 @@
 -- `scan_next` meets its contract. The invariant: the columns of the rows passed are visited.
 use Rattle.matching.specs.Parts.{col_at}
-use lib.ListN.{get_or}
-use Prim.Native.Nat.{ℕ, ◌≤◌, ◌<◌}
-use mathlib.Core.Path.{◌≡◌}
+use Rattle.std.proofs.Common.{get_or, ℕ, ◌≤◌, ◌<◌, ◌≡◌}
 use Rattle.matching.proofs.search.scan_next.Given as goal
 
 abbrev pub invariant-loop-k : goal.invariant-loop-k

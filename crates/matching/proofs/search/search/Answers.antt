@@ -2,10 +2,7 @@ use Rattle.matching.proofs.Arms.{in_hand, depth_below, column_below, rows_below,
 use Rattle.matching.proofs.Arms.{arm_free, arm_none, arm_again, arm_back, arm_on, fall_free, fall_none, fall_again}
 use Rattle.matching.proofs.Places.{pass_more}
 use Rattle.matching.proofs.Whole.{walk_begin, walk_done}
-use Prim.Native.Nat.{◌+◌}
-use lib.ListN.{length}
-use mathlib.Core.Path.{refl, sym, ap, ◌∙◌}
-use native.Mathlib.Omega.{arith}
+use Rattle.std.proofs.Common.{◌+◌, length, refl, sym, ap, ◌∙◌, arith}
 use Rattle.matching.proofs.search.search.Goals as goal
 
 pub dfs_loop-init : goal.dfs_loop-init

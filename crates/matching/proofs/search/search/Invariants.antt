@@ -5,7 +5,7 @@ use Rattle.matching.proofs.Whole.{goal_of}
 use Rattle.matching.proofs.Falls.{weight}
 use Rattle.matching.proofs.Walk.{Walk}
 use Rattle.sparse.specs.Columns.{edited_columns}
-use lib.ListN.{get_or}
+use Rattle.std.proofs.Common.{get_or}
 use Rattle.matching.proofs.search.search.Given as goal
 
 abbrev pub invariant-loop-k : goal.invariant-loop-k
