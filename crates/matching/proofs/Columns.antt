@@ -58,15 +58,15 @@ pub record Going (n : ℕ) (col : Pattern) (c : Col) (work₀ : SearchWork) (row
   pub matching : Stays n row2col₀ row2col
 
 -- before the first
-pub searches_start : {size : ℕ} {starts rows row2col : List ℕ} (work : SearchWork) → Shaped size starts rows → RowsBelow rows size
-    → Fresh size work.visited.now work.cheap.now work.scol.now work.sat.now row2col
-    → Going size (column starts rows) 0 work row2col work row2col
+pub going_start : {n : ℕ} {col : Pattern} {row2col : List ℕ} (work : SearchWork) → Inside n col
+    → ((d : Col) → length (col d) ≤ max_entries) → Fresh n work.visited.now work.cheap.now work.scol.now work.sat.now row2col
+    → Going n col 0 work row2col work row2col
 unfolding matching
-searches_start {size} work S low F = record {
-  inside = inside S low;
-  short = column_short S;
+going_start {n} work I short F = record {
+  inside = I;
+  short = short;
   fresh = F;
-  leads = let z : size - 0 ≡ size = omega arith in rw (z, F.free) refl;
+  leads = let z : n - 0 ≡ n = omega arith in rw (z, F.free) refl;
   stamps = λ d l. omega (arith, F.unvisited d l);
   sound = λ d l k j. absurd (omega (arith, F.unlooked d l));
   same_work = record {
@@ -78,6 +78,12 @@ searches_start {size} work S low F = record {
   };
   matching = record { same_length = refl; beyond = refl };
 }
+
+-- before the first in a matrix
+pub searches_start : {size : ℕ} {starts rows row2col : List ℕ} (work : SearchWork) → Shaped size starts rows → RowsBelow rows size
+    → Fresh size work.visited.now work.cheap.now work.scol.now work.sat.now row2col
+    → Going size (column starts rows) 0 work row2col work row2col
+searches_start work S low F = going_start work (inside S low) (column_short S) F
 
 -- then the next search can be made, with a stamp of its own
 pub going_ready : {n : ℕ} {col : Pattern} {c : Col} {w₀ w : SearchWork} {m₀ m : List ℕ} → Going n col c w₀ m₀ w m → c < n

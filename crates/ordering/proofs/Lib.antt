@@ -11,5 +11,6 @@ pub mod ByLength
 pub mod InRow
 pub mod OrderWhole
 pub mod Ranks
+pub mod OrderChecks
 pub mod OrderOutcome
 pub mod BenchSamples
