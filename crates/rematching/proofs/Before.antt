@@ -1,10 +1,6 @@
 -- 13 comes before 14.
-use Prim.Native.Nat.{ℕ, ◌≤◌}
-use mathlib.Core.Path.{◌≡◌, ◌∙◌}
-use mathlib.Core.List.{List}
-use borrow.Author.Tests.{le-leb}
+use Rattle.std.proofs.Common.{ℕ, ◌≤◌, ◌≡◌, ◌∙◌, List, le-leb, Err}
 use Rattle.graph.specs.Matchings.{Row, Col}
-use Rattle.std.specs.Prelude.{Err}
 use Rattle.sparse.specs.Refusals.{passed, refused_if, first_refusal, repeated_row}
 use Rattle.sparse.specs.declared.refusal.Refusal.TheVariants.{ColumnOutside}
 use Rattle.sparse.proofs.Refusals.{first_passed, first_refused}

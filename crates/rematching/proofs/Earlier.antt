@@ -1,12 +1,6 @@
 -- A number that stands at an earlier place of a list, as a test and in words.
-use Prim.Native.Nat.{ℕ, ◌<◌}
-use mathlib.Core.Path.{◌≡◌, sym, ◌∙◌}
+use Rattle.std.proofs.Common.{ℕ, ◌<◌, ◌≡◌, sym, ◌∙◌, List, true, arith, length, get_or, take, length-take, get_or-take}
 use mathlib.Core.List.Memᴰ
-use mathlib.Core.List.{List}
-use mathlib.Core.Bool.{true}
-use native.Mathlib.Omega.{arith}
-use lib.ListN.{length, get_or, take, length-take}
-use lib.Seq.{get_or-take}
 use Rattle.graph.specs.Lists.{elem}
 use Rattle.graph.proofs.Lists.{elem_mem, mem_elem, mem_get_or, get_or_mem}
 

@@ -1,14 +1,7 @@
 -- The search of an edit in the lent slices: it may be made there, and how it ends there is the rule's verdict.
-use Prim.Native.Nat.{ℕ, ◌+◌, ◌≤◌, ◌<◌}
-use mathlib.Core.Path.{◌≡◌, refl, sym, ap, ◌∙◌}
-use mathlib.Core.Logic.{◌↔◌}
-use mathlib.Core.Bool.{Bool, true, false}
-use mathlib.Core.List.{List, []}
-use native.Mathlib.Omega.{arith}
-use borrow.Author.Tests.{eq-eqb, ne_eqb}
-use lib.Dec.{eqb}
-use lib.ListN.{length, get_or, set, take, drop}
-use lib.Seq.{take-set-lt, drop-set-lt, set-set, set-get_or}
+use Rattle.std.proofs.Common.{ℕ, ◌+◌, ◌≤◌, ◌<◌, ◌≡◌, refl, sym, ap, ◌∙◌, ◌↔◌, Bool, true, false, List, [], arith, eq-eqb, ne_eqb, eqb}
+use Rattle.std.proofs.Common.{length, get_or, set, take, drop, drop-set-lt, set-set, Option, Some, None, IsSome}
+use lib.Seq.{take-set-lt, set-get_or}
 use Rattle.graph.specs.Edits.{former, freed}
 use Rattle.graph.specs.Lists.{Mem, elem}
 use Rattle.graph.specs.Matchings.{Row, Col, Pattern, Inside, Perfect, partner}
@@ -20,7 +13,6 @@ use Rattle.sparse.specs.Limits.{none}
 use Rattle.sparse.specs.Matrix.{column_or, Shaped, RowsBelow}
 use Rattle.sparse.specs.Refusals.{as_column}
 use Rattle.sparse.specs.declared.Column.{Column}
-use Rattle.std.specs.Prelude.{Option, Some, None, IsSome}
 use Rattle.matching.specs.Matching.{search, refused}
 use Rattle.matching.specs.Parts.{EndsAt, SameBeyond}
 use Rattle.matching.specs.Search.{Unstamped, stamped, is_found, moved, SearchReady, SearchEnds}

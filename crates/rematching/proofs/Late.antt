@@ -1,11 +1,7 @@
 -- What 4, 13, 14, 15 and the late 1 let through, that they let it through, and their numbers.
-use Prim.Native.Nat.{ℕ, ◌≤◌, ◌<◌}
-use mathlib.Core.Path.{◌≡◌, sym, ap, ◌∙◌}
-use mathlib.Core.Logic.{◌⊎◌, inl, inr, ◌≢◌, ⊎_elim}
-use mathlib.Core.List.{List}
-use native.Mathlib.Omega.{arith}
-use borrow.Author.Tests.{leb-false, ltb-false, lt-leb, le-ltb}
-use lib.ListN.{length, get_or}
+use Rattle.std.proofs.Common.{ℕ, ◌≤◌, ◌<◌, ◌≡◌, sym, ap, ◌∙◌, ◌⊎◌, inl, inr, ◌≢◌, ⊎_elim, List, arith, leb-false, ltb-false, le-ltb}
+use Rattle.std.proofs.Common.{length, get_or, Err}
+use borrow.Author.Tests.{lt-leb}
 use Rattle.graph.specs.Matchings.{Row, Col, partner}
 use Rattle.graph.specs.Permutations.{inverse}
 use Rattle.graph.specs.Counting.{preimage}
@@ -15,7 +11,6 @@ use Rattle.graph.proofs.Permutations.{length-inverse}
 use Rattle.sparse.specs.Buffers.{filled}
 use Rattle.sparse.specs.Limits.{max_entries}
 use Rattle.sparse.specs.Matrix.{Valid}
-use Rattle.std.specs.Prelude.{Err}
 use Rattle.sparse.specs.Refusals.{passed, number, as_row, refused_if, first_refusal, repeated_row}
 use Rattle.sparse.specs.declared.refusal.Refusal.{Refusal}
 use Rattle.sparse.specs.declared.refusal.Refusal.TheVariants.{TooLarge, ColumnOutside, UnfitRow, MismatchedRow}

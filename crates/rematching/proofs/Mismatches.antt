@@ -1,16 +1,9 @@
 -- Refusal 15: that it lets through the perfect matchings and no others; and the loop that looks for the first mismatched row.
-use Prim.Native.Nat.{ℕ, ◌+◌, ◌≤◌, ◌<◌}
-use mathlib.Core.Path.{◌≡◌, refl, sym, ap, ◌∙◌}
-use mathlib.Core.Logic.{◌⊎◌, inl, inr, ◌≢◌}
-use mathlib.Core.List.{List}
-use mathlib.Core.Bool.{Bool, true, false, ◌||◌, not}
+use Rattle.std.proofs.Common.{ℕ, ◌+◌, ◌≤◌, ◌<◌, ◌≡◌, refl, sym, ap, ◌∙◌, ◌⊎◌, inl, inr, ◌≢◌, List, Bool, true, false, ◌||◌, not, arith}
+use Rattle.std.proofs.Common.{below_more, leb-false, eq-eqb, ne_eqb, leb, eqb, length, get_or, set, take, ext_get_or, get_or-take}
+use Rattle.std.proofs.Common.{get_or-set_same, get_or-set_other, length-take-le}
 use native.Mathlib.Decide.{ℕ_discrete}
-use native.Mathlib.Omega.{arith}
-use borrow.Author.Count.{below_more}
-use borrow.Author.Tests.{leb-false, lt-leb, eq-eqb, ne_eqb, not-false}
-use lib.Dec.{leb, eqb}
-use lib.ListN.{length, get_or, set, take}
-use lib.Seq.{ext_get_or, get_or-take, get_or-set_same, get_or-set_other, length-take-le}
+use borrow.Author.Tests.{lt-leb, not-false}
 use Rattle.graph.specs.Lists.{Mem, elem}
 use Rattle.graph.specs.Matchings.{Row, Col, Pattern, Perfect, partner}
 use Rattle.graph.specs.Permutations.{inverse}

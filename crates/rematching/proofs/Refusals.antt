@@ -1,6 +1,5 @@
 -- That no check both refuses and passes, and the refusal at the row that a search came to.
-use Rattle.std.proofs.Common.{ℕ, ◌≡◌, refl, arith, Bool}
-use Rattle.std.specs.Prelude.{Option, Some, None, Err, option_map}
+use Rattle.std.proofs.Common.{ℕ, ◌≡◌, refl, arith, Bool, Option, Some, None, Err, option_map}
 use Rattle.sparse.specs.Parts.{found}
 use Rattle.sparse.specs.Refusals.{Checked, passed, as_row, refused_at}
 use Rattle.sparse.specs.declared.OriginalRow.{OriginalRow}

@@ -1,15 +1,9 @@
 -- Refusal 14: what it lets through, and that it lets it through; and the loop that looks for the first unfit row.
-use Prim.Native.Nat.{ℕ, zero, suc, ◌+◌, ◌≤◌, ◌<◌}
-use mathlib.Core.Path.{◌≡◌, refl, sym, ◌∙◌, subst}
-use mathlib.Core.Logic.{◌⊎◌, inl, inr}
-use mathlib.Core.List.{List}
-use mathlib.Core.Bool.{Bool, true, false, ◌||◌, not}
-use native.Mathlib.Omega.{arith}
-use borrow.Author.Count.{below_more}
-use borrow.Author.Tests.{leb-false, lt-leb, eq-eqb, ne_eqb}
-use lib.Dec.{leb, eqb}
-use lib.ListN.{length, get_or, set, take}
-use lib.Seq.{take-suc, take-length, length-take-le, get_or-take}
+use Rattle.std.proofs.Common.{ℕ, zero, suc, ◌+◌, ◌≤◌, ◌<◌, ◌≡◌, refl, sym, ◌∙◌, subst, ◌⊎◌, inl, inr, List, Bool, true, false, ◌||◌}
+use Rattle.std.proofs.Common.{not, arith, below_more, leb-false, eq-eqb, ne_eqb, leb, eqb, length, get_or, set, take, take-suc}
+use Rattle.std.proofs.Common.{length-take-le, get_or-take}
+use borrow.Author.Tests.{lt-leb}
+use lib.Seq.{take-length}
 use Rattle.graph.specs.Lists.{Mem, Once, elem}
 use Rattle.graph.specs.Matchings.{Row}
 use Rattle.graph.proofs.Bools.{or_left, or_right, is_false}

@@ -1,9 +1,6 @@
 -- Whether a row stands in a list, as the code asks it.
-use mathlib.Core.Path.{◌≡◌, refl, sym}
-use mathlib.Core.List.{List, [], ◌∷◌}
+use Rattle.std.proofs.Common.{◌≡◌, refl, sym, List, [], ◌∷◌, ne_eqb, eqb}
 use native.Mathlib.Decide.{ℕ_discrete}
-use borrow.Author.Tests.{ne_eqb}
-use lib.Dec.{eqb}
 use Rattle.std.specs.List.{list_any}
 use Rattle.graph.specs.Lists.{elem}
 use Rattle.graph.specs.Matchings.{Row}

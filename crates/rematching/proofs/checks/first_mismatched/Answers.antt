@@ -1,5 +1,4 @@
-use Rattle.std.proofs.Common.{arith, sym, ap}
-use Rattle.std.specs.Prelude.{option_map}
+use Rattle.std.proofs.Common.{arith, sym, ap, option_map}
 use Rattle.sparse.specs.Refusals.{as_row}
 use Rattle.sparse.proofs.Refusals.{found_at, found_none}
 use Rattle.rematching.proofs.Mismatches.{record_more, record_end, mismatch_test}
