@@ -61,3 +61,11 @@ enters_falling starts rows c = falls_into rows (get_or starts c 0) (get_or start
 -- the smallest number below n that p takes, if there is one
 unfoldable pub found : (ℕ → Bool) → ℕ → Option ℕ
 found p n = cond (ltb (first p n) n) (Some (first p n)) None
+
+-- what a closure asks of its argument holds of each number below n
+abbrev pub CallableBelow : ℕ → (ℕ → Type 0) → Type 0
+CallableBelow n asks = (i : ℕ) → i < n → asks i
+
+-- of each number below n a closure gives what f gives
+abbrev pub GivesBelow : {A : Type 0} → ℕ → (ℕ → A → Type 0) → (ℕ → A) → Type 0
+GivesBelow n gives f = (i : ℕ) (x : _) → i < n → gives i x → x ≡ f i

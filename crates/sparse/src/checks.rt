@@ -6,8 +6,8 @@ ghost use Rattle.sparse.specs.Matrix.{RowsBelow};
 ghost use Rattle.sparse.specs.Refusals.{first_refusal, Buffer, one_short, early, checked};
 ghost use Rattle.sparse.specs.Refusals.{too_large, misshapen, row_outside, repeated_row, empty_column};
 ghost use Rattle.sparse.specs.Refusals.{falls_at, repeats_at, refused_at};
-ghost use Rattle.sparse.specs.declared.refusal.Refusal.{Refusal as Reason};
-ghost use Rattle.sparse.specs.Parts.{ZeroBelow, Unmarked, FirstAgain, Tallied, Counted, marked, found};
+ghost use Rattle.sparse.specs.declared.refusal.Refusal.{Refusal};
+ghost use Rattle.sparse.specs.Parts.{ZeroBelow, Unmarked, FirstAgain, Tallied, Counted, marked, found, CallableBelow, GivesBelow};
 ghost use Rattle.sparse.specs.Parts.{row_falls_at, falls_into, opens_falling, enters_falling};
 
 use super::slices::{get, put};
@@ -23,8 +23,8 @@ pub fn check_size(size: u32, rows: &[u32]) -> Result<(), Refusal>
 // Whether a test takes one of the numbers below n. It goes through without a branch: nearly every input passes, and a place is looked
 // for only where there is one.
 fn some_below<F: Fn(u32) -> bool>(n: u32, takes: F) -> bool
-    requires { (i : ℕ) → i < n → F.pre takes i }
-    ensures { (p : ℕ → Bool) → ((i : ℕ) (b : Bool) → i < n → F.post takes i b → b ≡ p i) → result ≡ some p n }
+    requires { CallableBelow n (F.pre takes) }
+    ensures { (p : ℕ → Bool) → GivesBelow n (F.post takes) p → result ≡ some p n }
 {
     let mut found = false;
     for i in 0..n {
@@ -35,8 +35,8 @@ fn some_below<F: Fn(u32) -> bool>(n: u32, takes: F) -> bool
 
 // The first number below n that a test takes.
 fn first_below<F: Fn(u32) -> bool>(n: u32, takes: F) -> Option<u32>
-    requires { (i : ℕ) → i < n → F.pre takes i }
-    ensures found { (p : ℕ → Bool) → ((i : ℕ) (b : Bool) → i < n → F.post takes i b → b ≡ p i) → result ≡ found p n }
+    requires { CallableBelow n (F.pre takes) }
+    ensures found { (p : ℕ → Bool) → GivesBelow n (F.post takes) p → result ≡ found p n }
     ensures below { IfSome result (λ k. k < n) }
 {
     for i in 0..n {
@@ -53,10 +53,10 @@ fn refused_below<F: Fn(u32) -> bool + Copy, R: Fn(u32) -> Refusal>(
     takes: F,
     refusal: R,
 ) -> Result<(), Refusal>
-    requires takes { (i : ℕ) → i < n → F.pre takes i }
-    requires refusal { (i : ℕ) → i < n → R.pre refusal i }
-    ensures { (p : ℕ → Bool) (at : ℕ → Reason) → ((i : ℕ) (b : Bool) → i < n → F.post takes i b → b ≡ p i)
-        → ((i : ℕ) (r : Reason) → i < n → R.post refusal i r → r ≡ at i) → result ≡ refused_at at p n }
+    requires takes { CallableBelow n (F.pre takes) }
+    requires refusal { CallableBelow n (R.pre refusal) }
+    ensures { (p : ℕ → Bool) (at : ℕ → Refusal) → GivesBelow n (F.post takes) p → GivesBelow n (R.post refusal) at
+        → result ≡ refused_at at p n }
 {
     if !some_below(n, takes) {
         return Ok(());
