@@ -1,10 +1,12 @@
 // The edit of one column, for C. The number of blocks crosses beside the place.
 ghost use Rattle.std.specs.Prelude.{◌≡◌};
-ghost use Rattle.triangular.specs.Outcome.{lent, work, outputs, number_of, place_of, count_of};
+ghost use Rattle.sparse.specs.Refusals.{number_of, place_of};
+ghost use Rattle.triangular.specs.Outcome.{lent, work, outputs, count_of};
 ghost use Rattle.edit.specs.Outcome.{outcome};
 
 use sparse::Column;
-use triangular::BlockAnswer;
+use sparse::refusal::number_and_place;
+use triangular::{FormOutputs, FormWork};
 
 // edit::edit_column.
 #[unsafe(no_mangle)]
@@ -49,12 +51,7 @@ pub extern "C" fn dechvorim_edit_column<'a>(
         backstarts.old backrows.old scol.old sat.old)
         (outputs row2col.old hall.old blockcols.old blockstarts.old))).after }
 {
-    let answer = edit::edit_column(
-        size,
-        starts,
-        rows,
-        Column(edited),
-        replacement,
+    let mut work = FormWork {
         visited,
         cheap,
         finished,
@@ -63,21 +60,24 @@ pub extern "C" fn dechvorim_edit_column<'a>(
         backrows,
         scol,
         sat,
+    };
+    let mut outputs = FormOutputs {
         row2col,
         hall,
         blockcols,
         blockstarts,
+    };
+    let answer = edit::edit_column(
+        size,
+        starts,
+        rows,
+        Column(edited),
+        replacement,
+        &mut work,
+        &mut outputs,
     );
-    match answer {
-        BlockAnswer::Accepted(k) => {
-            *place = 0;
-            *count = k;
-            0
-        }
-        BlockAnswer::Refused(r) => {
-            *place = r.place;
-            *count = 0;
-            r.number
-        }
-    }
+    *count = answer.unwrap_or(0);
+    let (number, at) = number_and_place(answer.map(|_| ()));
+    *place = at;
+    number
 }

@@ -1,8 +1,10 @@
 // The block triangular form, for C. The number of blocks crosses beside the place.
 ghost use Rattle.std.specs.Prelude.{◌≡◌};
-ghost use Rattle.triangular.specs.Outcome.{lent, work, outputs, outcome, number_of, place_of, count_of};
+ghost use Rattle.sparse.specs.Refusals.{number_of, place_of};
+ghost use Rattle.triangular.specs.Outcome.{lent, work, outputs, outcome, count_of};
 
-use triangular::BlockAnswer;
+use sparse::refusal::number_and_place;
+use triangular::{FormOutputs, FormWork};
 
 // triangular::find_block_diag_form.
 #[unsafe(no_mangle)]
@@ -45,10 +47,7 @@ pub extern "C" fn dechvorim_find_block_diag_form(
         backstarts.old backrows.old scol.old sat.old)
         (outputs row2col.old hall.old blockcols.old blockstarts.old))).after }
 {
-    let answer = triangular::find_block_diag_form(
-        size,
-        starts,
-        rows,
+    let mut work = FormWork {
         visited,
         cheap,
         finished,
@@ -57,21 +56,16 @@ pub extern "C" fn dechvorim_find_block_diag_form(
         backrows,
         scol,
         sat,
+    };
+    let mut outputs = FormOutputs {
         row2col,
         hall,
         blockcols,
         blockstarts,
-    );
-    match answer {
-        BlockAnswer::Accepted(k) => {
-            *place = 0;
-            *count = k;
-            0
-        }
-        BlockAnswer::Refused(r) => {
-            *place = r.place;
-            *count = 0;
-            r.number
-        }
-    }
+    };
+    let answer = triangular::find_block_diag_form(size, starts, rows, &mut work, &mut outputs);
+    *count = answer.unwrap_or(0);
+    let (number, at) = number_and_place(answer.map(|_| ()));
+    *place = at;
+    number
 }
