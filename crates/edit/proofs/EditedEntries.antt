@@ -1,10 +1,6 @@
 -- The edited matrix: how many entries it has, that there is room for them, and that no column has a row twice.
-use Prim.Native.Nat.{ℕ, ◌≤◌, ◌<◌}
-use mathlib.Core.Path.{◌≡◌, sym, subst}
-use mathlib.Core.List.{List}
+use Rattle.std.proofs.Common.{ℕ, ◌≤◌, ◌<◌, ◌≡◌, sym, subst, List, arith, length}
 use native.Mathlib.Decide.{ℕ_discrete, dec_lt}
-use native.Mathlib.Omega.{arith}
-use lib.ListN.{length}
 use Rattle.graph.specs.Lists.{Once}
 use Rattle.graph.specs.Matchings.{Row, Col}
 use Rattle.graph.proofs.Edits.{edited_same, edited_other}

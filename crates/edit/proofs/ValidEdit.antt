@@ -1,11 +1,5 @@
 -- The edit of a valid matrix: what the search hands on lets the blocks be cut, and both ends hand out the rule's verdict.
-use Prim.Native.Nat.{ℕ, ◌+◌, ◌-◌, ◌≤◌, ◌<◌}
-use mathlib.Core.Path.{◌≡◌, refl, sym, ap, ◌∙◌}
-use mathlib.Core.List.{List}
-use native.Mathlib.Omega.{arith}
-use lib.Dec.{eqb}
-use lib.ListN.{length, get_or, take, drop}
-use lib.Seq.{drop-drop}
+use Rattle.std.proofs.Common.{ℕ, ◌+◌, ◌-◌, ◌≤◌, ◌<◌, ◌≡◌, refl, sym, ap, ◌∙◌, List, arith, eqb, length, get_or, take, drop, drop-drop}
 use Rattle.graph.specs.Counting.{bit}
 use Rattle.graph.specs.Lists.{elem, table}
 use Rattle.graph.specs.Matchings.{Row, Col, Pattern, Perfect, partner}

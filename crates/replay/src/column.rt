@@ -52,24 +52,15 @@ impl<'a> Edit<'a> {
         let pattern = &self.form.matching.pattern;
         let mut lent = Lent::junk();
         lent.row2col = holding(self.old_matching);
+        let (mut work, mut outputs) = lent.lend();
         let answer = edit::edit_column(
             pattern.size,
             pattern.starts,
             pattern.rows,
             self.column,
             self.replacement,
-            &mut lent.visited,
-            &mut lent.cheap,
-            &mut lent.finished,
-            &mut lent.col2row,
-            &mut lent.backstarts,
-            &mut lent.backrows,
-            &mut lent.scol,
-            &mut lent.sat,
-            &mut lent.row2col,
-            &mut lent.hall,
-            &mut lent.blockcols,
-            &mut lent.blockstarts,
+            &mut work,
+            &mut outputs,
         );
         // Backrows has room for the entries and the rows of one more column.
         let back = pattern.rows.len() + pattern.columns();

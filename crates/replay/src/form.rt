@@ -109,22 +109,13 @@ impl<'a> Form<'a> {
     pub fn agrees(&self) -> bool {
         let pattern = &self.matching.pattern;
         let mut lent = Lent::junk();
+        let (mut work, mut outputs) = lent.lend();
         let answer = triangular::find_block_diag_form(
             pattern.size,
             pattern.starts,
             pattern.rows,
-            &mut lent.visited,
-            &mut lent.cheap,
-            &mut lent.finished,
-            &mut lent.col2row,
-            &mut lent.backstarts,
-            &mut lent.backrows,
-            &mut lent.scol,
-            &mut lent.sat,
-            &mut lent.row2col,
-            &mut lent.hall,
-            &mut lent.blockcols,
-            &mut lent.blockstarts,
+            &mut work,
+            &mut outputs,
         );
         self.is_answered(answer, &lent, pattern.rows.len(), self.matching.row2col)
     }

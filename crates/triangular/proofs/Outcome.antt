@@ -1,11 +1,7 @@
 -- Each exit of `find_block_diag_form`: what it returns and leaves is the outcome, and has the meaning.
-use Prim.Native.Nat.{ℕ, ◌<◌, ◌≤◌}
-use mathlib.Core.Path.{◌≡◌, refl, sym, ap, ◌∙◌, fun_ext}
+use Rattle.std.proofs.Common.{ℕ, ◌<◌, ◌≤◌, ◌≡◌, refl, sym, ap, ◌∙◌, List, [], ◌∷◌, map, ◌↔◌, arith, length, get_or, Ok, Err}
+use mathlib.Core.Path.{fun_ext}
 use mathlib.Core.List.Memᴰ
-use mathlib.Core.List.{List, [], ◌∷◌, map}
-use mathlib.Core.Logic.{◌↔◌}
-use native.Mathlib.Omega.{arith}
-use lib.ListN.{length, get_or}
 use Rattle.graph.specs.Lists.{Mem}
 use Rattle.graph.specs.Matchings.{Row, Col, Pattern, Inside, Perfect, Points, partner}
 use Rattle.graph.specs.Blocks.{targets, blocks}
@@ -15,7 +11,6 @@ use Rattle.graph.proofs.Targets.{targets_within, matching_form, form_carried}
 use Rattle.sparse.specs.Buffers.{zeroed, filled}
 use Rattle.sparse.specs.Limits.{none, max_size}
 use Rattle.sparse.specs.Matrix.{column}
-use Rattle.std.specs.Prelude.{Ok, Err}
 use Rattle.sparse.specs.Refusals.{Checked, passed, number, as_column, first_refusal, early, repeated_row}
 use Rattle.sparse.specs.declared.refusal.Refusal.{Refusal}
 use Rattle.sparse.specs.declared.refusal.Refusal.TheVariants.{Unmatchable}

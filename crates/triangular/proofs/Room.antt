@@ -1,11 +1,5 @@
 -- The tests of the block form's buffers, put together, and its workspace cleared slice by slice.
-use Prim.Native.Nat.{ℕ}
-use mathlib.Core.Path.{◌≡◌, refl, ap, ◌∙◌}
-use mathlib.Core.Bool.{Bool, true, false, ◌||◌}
-use mathlib.Core.List.{List, [], ◌∷◌, ◌++◌}
-use native.Mathlib.Omega.{arith}
-use lib.Dec.{ltb}
-use lib.ListN.{length}
+use Rattle.std.proofs.Common.{ℕ, ◌≡◌, refl, ap, ◌∙◌, Bool, true, false, ◌||◌, List, [], ◌∷◌, ◌++◌, arith, ltb, length}
 use Rattle.sparse.specs.Refusals.{Buffer, one_short, Roomy}
 use Rattle.std.proofs.Math.Bool.{or_assoc}
 use Rattle.triangular.specs.Parts.{SameWork}

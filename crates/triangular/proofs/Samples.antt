@@ -1,6 +1,6 @@
 -- The outcome of each sample is the one expected, by computing it.
-use mathlib.Core.Path.{◌≡◌, refl}
-use mathlib.Core.List.{map, flatten}
+use Rattle.std.proofs.Common.{◌≡◌, refl, map}
+use mathlib.Core.List.{flatten}
 use Rattle.graph.specs.Counting.{first, some}
 use Rattle.graph.specs.Lists.{keep, table, range}
 use Rattle.graph.specs.Blocks.{finishing, cut, blocks}

@@ -1,10 +1,7 @@
 -- The blocks under a matching, step by step: what each part leaves is what the next needs, and at the end the rule's blocks are
 -- there.
-use Prim.Native.Nat.{ℕ, ◌+◌, ◌≤◌, ◌<◌}
-use mathlib.Core.Path.{◌≡◌, ap, ◌∙◌, subst}
-use mathlib.Core.List.{List, [], ◌++◌, flatten}
-use native.Mathlib.Omega.{arith}
-use lib.ListN.{length, get_or, take, drop}
+use Rattle.std.proofs.Common.{ℕ, ◌+◌, ◌≤◌, ◌<◌, ◌≡◌, ap, ◌∙◌, subst, List, [], ◌++◌, arith, length, get_or, take, drop}
+use mathlib.Core.List.{flatten}
 use Rattle.graph.specs.Matchings.{Pattern}
 use Rattle.graph.specs.Permutations.{Permutes, Inverse, inverse}
 use Rattle.graph.specs.Blocks.{targets, blocks, cut}

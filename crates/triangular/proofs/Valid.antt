@@ -1,10 +1,6 @@
 -- The block form of a valid matrix: what the matching hands on lets the blocks be cut, and both ends hand out the verdict.
-use Prim.Native.Nat.{ℕ, ◌≤◌, ◌<◌}
-use mathlib.Core.Path.{◌≡◌, ◌∙◌}
-use mathlib.Core.List.{List}
+use Rattle.std.proofs.Common.{ℕ, ◌≤◌, ◌<◌, ◌≡◌, ◌∙◌, List, arith, length, Ok}
 use native.Mathlib.Decide.{dec_lt}
-use native.Mathlib.Omega.{arith}
-use lib.ListN.{length}
 use Rattle.graph.specs.Lists.{Once}
 use Rattle.graph.specs.Matchings.{Row, Col, Perfect, partner}
 use Rattle.graph.specs.Blocks.{targets, blocks}
@@ -21,7 +17,6 @@ use Rattle.blocks.specs.Cut.{HoldsBlocks}
 use Rattle.triangular.specs.Outcome.{Work, Outputs, outputs, Lent, lent, buffers, cleared}
 use Rattle.triangular.specs.Outcome.{BlockAnswer, handed_out, formed, outcome, ended, Given, Means}
 use Rattle.blocks.specs.Reverse.{Reversible}
-use Rattle.std.specs.Prelude.{Ok}
 use Rattle.triangular.proofs.Outcome.{Handed, handed_agree, hand_accepted, decides, formed_outcome, outcome_means}
 
 -- ---- what is given

@@ -1,7 +1,5 @@
 -- `edit_column` meets its contract: a refusal of the early checks, or what is replaced with the workspace cleared, is the outcome.
-use native.Mathlib.Omega.{arith}
-use mathlib.Core.Path.{◌≡◌, refl, sym, ◌∙◌}
-use mathlib.Core.List.{List}
+use Rattle.std.proofs.Common.{arith, ◌≡◌, refl, sym, ◌∙◌, List}
 use Rattle.sparse.specs.Refusals.{Buffer, first_refusal, early}
 use Rattle.sparse.specs.declared.Checked.TheVariants as checked
 use Rattle.sparse.specs.declared.Checked.{Checked}

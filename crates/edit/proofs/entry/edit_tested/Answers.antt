@@ -1,6 +1,5 @@
 -- `edit_tested` meets its contract: a late check refuses, and else the valid edit is made.
-use native.Mathlib.Omega.{arith}
-use mathlib.Core.Path.{◌≡◌, sym, ◌∙◌}
+use Rattle.std.proofs.Common.{arith, ◌≡◌, sym, ◌∙◌}
 use Rattle.sparse.specs.Refusals.{first_refusal, repeated_row}
 use Rattle.sparse.specs.declared.Checked.TheVariants as checked
 use Rattle.sparse.proofs.Matrix.{column_once}

@@ -3,7 +3,7 @@ use Rattle.edit.proofs.ValidEdit.{Searched, cleared_beyond, searched_reversible,
 use Rattle.edit.proofs.ValidEdit.{searched_accepted, searched_refused, passed_cleared}
 use Rattle.edit.proofs.EditedEntries.{entries_few}
 use Rattle.triangular.specs.Outcome.{Lent, work, outputs, lent}
-use native.Mathlib.Omega.{arith}
+use Rattle.std.proofs.Common.{arith}
 use Rattle.edit.proofs.valid.edit_valid.Goals as goal
 
 pub returns-then-end-size-clause-blockstarts_after : goal.returns-then-end-size-clause-blockstarts_after
