@@ -13,10 +13,14 @@ use Rattle.graph.specs.Edits.{former, freed}
 use Rattle.graph.specs.Lists.{Mem, elem}
 use Rattle.graph.specs.Matchings.{Row, Col, Pattern, Inside, Perfect, partner}
 use Rattle.graph.specs.Paths.{Ending, failed, found, augment}
+use Rattle.graph.proofs.Bools.{apart}
 use Rattle.graph.proofs.Lists.{elem_mem, not_elem}
 use Rattle.graph.proofs.Matchings.{row_of}
 use Rattle.sparse.specs.Limits.{none}
 use Rattle.sparse.specs.Matrix.{column_or, Shaped, RowsBelow}
+use Rattle.sparse.specs.Refusals.{as_column}
+use Rattle.sparse.specs.declared.Column.{Column}
+use Rattle.std.specs.Prelude.{Option, Some, None, IsSome}
 use Rattle.matching.specs.Matching.{search, refused}
 use Rattle.matching.specs.Parts.{EndsAt, SameBeyond}
 use Rattle.matching.specs.Search.{Unstamped, stamped, is_found, moved, SearchReady, SearchEnds}
@@ -84,17 +88,17 @@ same_search {n} {col} m e I M l =
 -- where the search answers true it found a path, and the slice holds the rule's matching
 edit_found : {n : ℕ} {col col₀ : Pattern} {e : Col} {v₀ h₀ v h m' : List ℕ} (m : List Col) → Inside n col
     → Perfect n col₀ (partner m) → e < n → SearchEnds n col (freed n m e none) e (e + 1) v₀ h₀ v h m' true
-    → EndsAt n v m' n (rematching n col (take n m) e)
+    → EndsAt n v m' None (rematching n col (take n m) e)
 edit_found {n} {col} {e = e} {v = v} {m' = m'} m I M l E = go (search n col (freed n m e none) n [] e).ending refl
   where
-    go : (o : Ending) → (search n col (freed n m e none) n [] e).ending ≡ o → EndsAt n v m' n (rematching n col (take n m) e)
+    go : (o : Ending) → (search n col (freed n m e none) n [] e).ending ≡ o → EndsAt n v m' None (rematching n col (take n m) e)
     go failed f = let z : ◌≡◌ {A = ℕ} 0 1 = cc (E.answered, ap is_found f) in absurd (omega arith)
     go (found p r) f =
         let s : (search n col (freed n (take n m) e none) n [] e).ending ≡ found p r = ap (λ t. t.ending) (same_search m e I M l) ∙ f in
         let g : take n m' ≡ augment (freed n (take n m) e none) e p r =
         ap (take n) E.matched ∙ take-moved n col (freed n m e none) e I l
         ∙ rw (sym (freed-take m e none M l)) (ap (moved (freed n (take n m) e none) e) s) in
-        rw (rematching_found n col (take n m) e p r s) (refl, g)
+        rw (rematching_found n col (take n m) e p r s) g
 
 -- where it answers false it found none
 no_path : (o : Ending) → false ≡ is_found o → o ≡ failed
@@ -105,7 +109,7 @@ no_path (found p r) h = let z : ◌≡◌ {A = ℕ} 0 1 = cc in absurd (omega ar
 edit_failed : {n : ℕ} {col col₀ : Pattern} {e : Col} {v₀ h₀ v h m' : List ℕ} (m m'' : List Col) → Inside n col
     → Perfect n col₀ (partner m) → e < n → n ≤ length v₀ → Unstamped n (e + 1) v₀
     → SearchEnds n col (freed n m e none) e (e + 1) v₀ h₀ v h m' false
-    → EndsAt n v m'' e (rematching n col (take n m) e)
+    → EndsAt n v m'' (Some (as_column e)) (rematching n col (take n m) e)
 edit_failed {n} {col} {e = e} {v₀ = v₀} {v = v} m m'' I M l long new E = rw verdict (refl, l, stamp)
   where
     verdict : rematching n col (take n m) e ≡ refused e (search n col (freed n m e none) n [] e).visited
@@ -137,10 +141,10 @@ edit_restored {n} {col} {e = e} {m' = m'} m M l E =
 
 -- ---- how `rematch` returns
 
--- what it leaves besides the stack where it returns r, and v₀, h₀ and m₀ were before
-pub record Leaves (n : ℕ) (col : Pattern) (e r : ℕ) (v₀ h₀ m₀ v h m : List ℕ) : Type 0 where
-  pub ends : EndsAt n v m r (rematching n col (take n m₀) e)
-  pub kept : r < n → m ≡ m₀
+-- what it leaves besides the stack where it returns a column or none, and v₀, h₀ and m₀ were before
+pub record Leaves (n : ℕ) (col : Pattern) (e : Col) (answer : Option Column) (v₀ h₀ m₀ v h m : List ℕ) : Type 0 where
+  pub ends : EndsAt n v m answer (rematching n col (take n m₀) e)
+  pub kept : IsSome answer → m ≡ m₀
   pub matching : SameBeyond n m₀ m
   pub visited : SameBeyond n v₀ v
   pub cheap : SameBeyond n h₀ h
@@ -151,17 +155,17 @@ as_freed : {n k : ℕ} {col : Pattern} {e : Col} {v₀ h₀ v h m₁ m' : List �
     → SearchEnds n col (freed n m e none) e k v₀ h₀ v h m' b
 as_freed m row b f g a E = rw (sym a, sym f, sym g) E
 
--- it returns the size after a path was found, with the matching moved along it
+-- it returns no column after a path was found, with the matching moved along it
 pub leaves_found : {size : ℕ} {starts rows new v₀ h₀ v h m m₁ m' : List ℕ} {e : Col} {answer : Bool} (row : Row)
     → Shaped size starts rows → RowsBelow rows size → Editable size starts rows e new m → row ≡ former size m e → m₁ ≡ set m row none
     → SearchEnds size (column_or starts rows e new) m₁ e (e + 1) v₀ h₀ v h m' answer → answer ≡ true
-    → Leaves size (column_or starts rows e new) e size v₀ h₀ m v h m'
+    → Leaves size (column_or starts rows e new) e None v₀ h₀ m v h m'
 leaves_found {size} {new = new} {m = m} {e = e} row S low D f g E a =
     let F = as_freed m row true f g a E in
     let I = edited_inside e new S low D.new_below D.below in
     record {
       ends = edit_found m I D.perfect D.below F;
-      kept = λ l. absurd (omega arith);
+      kept = λ l. absurd (apart false l refl);
       matching = matching_beyond I D.below F ∙ drop-set-lt size m (former size m e) none (row_of D.perfect e D.below).0;
       visited = visited_beyond D.below F;
       cheap = F.cheap_beyond;
@@ -172,7 +176,7 @@ pub leaves_failed : {size : ℕ} {starts rows new v₀ h₀ s₀ a₀ v h m m₁
     → Shaped size starts rows → RowsBelow rows size → Editable size starts rows e new m → Unused size v₀ h₀ s₀ a₀ m
     → row ≡ former size m e → m₁ ≡ set m row none
     → SearchEnds size (column_or starts rows e new) m₁ e (e + 1) v₀ h₀ v h m' answer → answer ≡ false → m'' ≡ set m' row e
-    → Leaves size (column_or starts rows e new) e e v₀ h₀ m v h m''
+    → Leaves size (column_or starts rows e new) e (Some (as_column e)) v₀ h₀ m v h m''
 leaves_failed {size} {new = new} {m = m} {m' = m'} {m'' = m''} {e = e} row S low D U f g E a b =
     let F = as_freed m row false f g a E in
     let I = edited_inside e new S low D.new_below D.below in

@@ -15,9 +15,10 @@ use Rattle.graph.proofs.Permutations.{length-inverse}
 use Rattle.sparse.specs.Buffers.{filled}
 use Rattle.sparse.specs.Limits.{max_entries}
 use Rattle.sparse.specs.Matrix.{Valid}
-use Rattle.sparse.specs.Refusals.{refused_if, first_refusal, repeated_row}
-use Rattle.sparse.specs.declared.Checked.TheVariants.{Passed, Refused}
-use Rattle.sparse.specs.declared.Refusal.{Refusal}
+use Rattle.std.specs.Prelude.{Err}
+use Rattle.sparse.specs.Refusals.{passed, number, as_row, refused_if, first_refusal, repeated_row}
+use Rattle.sparse.specs.declared.refusal.Refusal.{Refusal}
+use Rattle.sparse.specs.declared.refusal.Refusal.TheVariants.{TooLarge, ColumnOutside, UnfitRow, MismatchedRow}
 use Rattle.sparse.proofs.Buffers.{filled_at}
 use Rattle.sparse.proofs.Early.{repeats_number}
 use Rattle.sparse.proofs.Passing.{repeats_pass}
@@ -28,21 +29,21 @@ use Rattle.rematching.proofs.Mismatches.{mismatched_perfect, perfect_passes}
 
 -- ---- 13 and the late 1
 
-pub column_below : (size : ℕ) (e : Col) → column_outside size e ≡ Passed → e < size
+pub column_below : (size : ℕ) (e : Col) → column_outside size e ≡ passed → e < size
 unfolding column_outside
-column_below size e f = leb-false size e (if_passed 13 _ f)
+column_below size e f = leb-false size e (if_passed ColumnOutside _ f)
 
-column_passes : (size : ℕ) (e : Col) → e < size → column_outside size e ≡ Passed
+column_passes : (size : ℕ) (e : Col) → e < size → column_outside size e ≡ passed
 unfolding column_outside refused_if
 column_passes size e l = rw (lt-leb size e l)
 
-grown_few : (starts : List ℕ) (rows : List Row) (e : Col) (new : List Row) → grown_too_large starts rows e new ≡ Passed
+grown_few : (starts : List ℕ) (rows : List Row) (e : Col) (new : List Row) → grown_too_large starts rows e new ≡ passed
     → edited_entries starts rows e new ≤ max_entries
 unfolding grown_too_large
-grown_few starts rows e new f = ltb-false max_entries _ (if_passed 1 _ f)
+grown_few starts rows e new f = ltb-false max_entries _ (if_passed TooLarge _ f)
 
 few_passes : (starts : List ℕ) (rows : List Row) (e : Col) (new : List Row) → edited_entries starts rows e new ≤ max_entries
-    → grown_too_large starts rows e new ≡ Passed
+    → grown_too_large starts rows e new ≡ passed
 unfolding grown_too_large refused_if
 few_passes starts rows e new l = rw (le-ltb max_entries (edited_entries starts rows e new) l)
 
@@ -50,8 +51,8 @@ few_passes starts rows e new l = rw (le-ltb max_entries (edited_entries starts r
 
 -- what they let through has no row twice in a column, and can be edited
 pub late_passed : (size : ℕ) (starts : List ℕ) (rows : List Row) (e : Col) (new : List Row) (m : List Col) → size ≤ length m
-    → first_refusal (late size starts rows e new m) ≡ Passed
-    → (repeated_row size starts rows ≡ Passed) × Editable size starts rows e new m
+    → first_refusal (late size starts rows e new m) ≡ passed
+    → (repeated_row size starts rows ≡ passed) × Editable size starts rows e new m
 unfolding late
 late_passed size starts rows e new m long f =
     let col = tail_passed _ _ f in
@@ -70,7 +71,7 @@ late_passed size starts rows e new m long f =
 
 -- and whatever is such they let through
 pub late_passes : {size : ℕ} {starts : List ℕ} {rows : List Row} {e : Col} {new : List Row} {m : List Col}
-    → Valid size starts rows → Editable size starts rows e new m → first_refusal (late size starts rows e new m) ≡ Passed
+    → Valid size starts rows → Editable size starts rows e new m → first_refusal (late size starts rows e new m) ≡ passed
 unfolding late
 late_passes {size} {starts} {rows} {e} {new} {m} G E =
     first_passed _ _ (repeats_pass G.shaped G.once) ∙ first_passed _ _ (column_passes size e E.below)
@@ -83,13 +84,13 @@ LateNumber n = (n ≡ 4) ⊎ ((n ≡ 13) ⊎ ((n ≡ 14) ⊎ ((n ≡ 15) ⊎ (n 
 
 -- what they refuse has one
 pub late_number : (size : ℕ) (starts : List ℕ) (rows : List Row) (e : Col) (new : List Row) (m : List Col) (r : Refusal)
-    → first_refusal (late size starts rows e new m) ≡ Refused r → LateNumber r.number
+    → first_refusal (late size starts rows e new m) ≡ Err r → LateNumber (number r)
 unfolding late column_outside unfit_row mismatched_row grown_too_large
 late_number size starts rows e new m r f =
     ⊎_elim (λ g. inl (repeats_number size starts rows r g)) (λ f₁. inr (
-    ⊎_elim (λ g. inl (number_if 13 _ r g)) (λ f₂. inr (
-    ⊎_elim (λ g. inl (number_at 14 _ _ r g)) (λ f₃. inr (
-    ⊎_elim (λ g. inl (number_at 15 _ _ r g)) (λ f₄. inr (number_if 1 _ r (sym (first_last _) ∙ f₄)))
+    ⊎_elim (λ g. inl (number_if ColumnOutside _ r g)) (λ f₂. inr (
+    ⊎_elim (λ g. inl (number_at UnfitRow _ _ r g)) (λ f₃. inr (
+    ⊎_elim (λ g. inl (number_at (λ r. MismatchedRow (as_row r)) _ _ r g)) (λ f₄. inr (number_if TooLarge _ r (sym (first_last _) ∙ f₄)))
     (which _ _ r f₃))) (which _ _ r f₂))) (which _ _ r f₁))) (which _ _ r f)
 
 -- which is neither that of acceptance nor that of a failed search

@@ -19,7 +19,8 @@ use Rattle.graph.proofs.Counting.{tri}
 use Rattle.graph.proofs.Lists.{elem_mem, mem_elem}
 use Rattle.graph.proofs.Permutations.{permutes, length-inverse, inverse_only}
 use Rattle.sparse.specs.Limits.{max_size, none}
-use Rattle.sparse.specs.declared.Checked.TheVariants.{Passed}
+use Rattle.sparse.specs.Refusals.{passed, as_row}
+use Rattle.sparse.specs.declared.refusal.Refusal.TheVariants.{MismatchedRow}
 use Rattle.sparse.proofs.Refusals.{at_passed, refused_none}
 use Rattle.matching.proofs.Stamps.{Kept, kept_set}
 use Rattle.rematching.specs.Checks.{mismatched_at, mismatched_row}
@@ -73,15 +74,15 @@ suits_perfect n col m f long = record {
 -- ---- 15
 
 -- it lets through perfect matchings only
-pub mismatched_perfect : (n : ℕ) (col : Pattern) (m : List Col) → n ≤ length m → mismatched_row n col m ≡ Passed
+pub mismatched_perfect : (n : ℕ) (col : Pattern) (m : List Col) → n ≤ length m → mismatched_row n col m ≡ passed
     → Perfect n col (partner m)
 unfolding mismatched_row
-mismatched_perfect n col m long e = suits_perfect n col m (at_passed 15 (mismatched_at n col m) n e) long
+mismatched_perfect n col m long e = suits_perfect n col m (at_passed (λ r. MismatchedRow (as_row r)) (mismatched_at n col m) n e) long
 
 -- and every one
-pub perfect_passes : {n : ℕ} {col : Pattern} (m : List Col) → Perfect n col (partner m) → mismatched_row n col m ≡ Passed
+pub perfect_passes : {n : ℕ} {col : Pattern} (m : List Col) → Perfect n col (partner m) → mismatched_row n col m ≡ passed
 unfolding mismatched_row
-perfect_passes {n} {col} m M = refused_none 15 (mismatched_at n col m) n suits
+perfect_passes {n} {col} m M = refused_none (λ r. MismatchedRow (as_row r)) (mismatched_at n col m) n suits
   where
     new : (r : Row) → r < n → elem (partner m r) (take r m) ≡ true → ⊥
     new r l t =

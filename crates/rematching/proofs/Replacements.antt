@@ -4,8 +4,6 @@ use mathlib.Core.Path.{◌≡◌, refl, sym, ◌∙◌, subst}
 use mathlib.Core.Logic.{◌⊎◌, inl, inr}
 use mathlib.Core.List.{List}
 use mathlib.Core.Bool.{Bool, true, false, ◌||◌, not}
-use native.Mathlib.Nat.{zero-add}
-use native.Mathlib.Numerals.{add-one}
 use native.Mathlib.Omega.{arith}
 use borrow.Author.Count.{below_more}
 use borrow.Author.Tests.{leb-false, lt-leb, eq-eqb, ne_eqb}
@@ -19,8 +17,9 @@ use Rattle.graph.proofs.Concatenation.{once_places}
 use Rattle.graph.proofs.Lists.{mem_get_or, not_elem, once_snoc, once_left}
 use Rattle.sparse.specs.Matrix.{RowsBelow}
 use Rattle.sparse.specs.Parts.{ZeroBelow, marked}
-use Rattle.sparse.specs.declared.Checked.TheVariants.{Passed}
-use Rattle.sparse.proofs.Marks.{Listed, Unlisted, listed, marked_in, marked_out}
+use Rattle.sparse.specs.Refusals.{passed}
+use Rattle.sparse.specs.declared.refusal.Refusal.TheVariants.{UnfitRow}
+use Rattle.sparse.proofs.Marks.{Listed, Unlisted, listed, marked_in, marked_out, mark_more, mark_none}
 use Rattle.sparse.proofs.Refusals.{at_passed, refused_none}
 use Rattle.matching.proofs.Stamps.{Kept, kept_start, kept_set}
 use Rattle.rematching.specs.Checks.{unfit_at, unfit_row}
@@ -56,25 +55,25 @@ fit_few size new k f l =
 -- ---- 14
 
 -- it lets through rows below n
-pub unfit_below : (size : ℕ) (new : List Row) → unfit_row size new ≡ Passed → RowsBelow new size
+pub unfit_below : (size : ℕ) (new : List Row) → unfit_row size new ≡ passed → RowsBelow new size
 unfolding unfit_row
-unfit_below size new e k l = fit_row size new k (at_passed 14 (unfit_at size new) (length new) e k l)
+unfit_below size new e k l = fit_row size new k (at_passed UnfitRow (unfit_at size new) (length new) e k l)
 
 -- of which none stands twice
-pub unfit_once : (size : ℕ) (new : List Row) → unfit_row size new ≡ Passed → Once new
+pub unfit_once : (size : ℕ) (new : List Row) → unfit_row size new ≡ passed → Once new
 unfolding unfit_row
 unfit_once size new e =
-    rw (take-length new) at (fit_once size new (length new) (at_passed 14 (unfit_at size new) (length new) e) (omega arith))
+    rw (take-length new) at (fit_once size new (length new) (at_passed UnfitRow (unfit_at size new) (length new) e) (omega arith))
 
 -- so they are at most n
-pub unfit_few : (size : ℕ) (new : List Row) → unfit_row size new ≡ Passed → length new ≤ size
+pub unfit_few : (size : ℕ) (new : List Row) → unfit_row size new ≡ passed → length new ≤ size
 unfolding unfit_row
-unfit_few size new e = fit_few size new (length new) (at_passed 14 (unfit_at size new) (length new) e) (omega arith)
+unfit_few size new e = fit_few size new (length new) (at_passed UnfitRow (unfit_at size new) (length new) e) (omega arith)
 
 -- and it lets such rows through
-pub fit_passes : (size : ℕ) (new : List Row) → RowsBelow new size → Once new → unfit_row size new ≡ Passed
+pub fit_passes : (size : ℕ) (new : List Row) → RowsBelow new size → Once new → unfit_row size new ≡ passed
 unfolding unfit_row
-fit_passes size new b o = refused_none 14 (unfit_at size new) (length new) fit
+fit_passes size new b o = refused_none UnfitRow (unfit_at size new) (length new) fit
   where
     fit : (k : ℕ) → k < length new → unfit_at size new k ≡ false
     fit k l =
@@ -88,12 +87,11 @@ fit_passes size new b o = refused_none 14 (unfit_at size new) (length new) fit
 pub record Marking (size : ℕ) (new : List Row) (m₀ marks : List ℕ) (k : ℕ) : Type 0 where
   pub fit : Fit size new k
   pub kept : Kept size m₀ marks
-  pub same : marks ≡ marked new 1 0 k m₀
+  pub same : marks ≡ marked new 1 k m₀
 
 pub marking_start : (size : ℕ) (new : List Row) (m : List ℕ) → size ≤ length m → Marking size new m m 0
-unfolding marked
 marking_start size new m l =
-    record { fit = λ j k. absurd (omega arith); kept = kept_start size m l; same = refl }
+    record { fit = λ j k. absurd (omega arith); kept = kept_start size m l; same = sym (mark_none new 1 m) }
 
 -- there are at most n of them
 pub marking_few : {size : ℕ} {new : List Row} {m₀ marks : List ℕ} {k : ℕ} → Marking size new m₀ marks k → k ≤ length new → k ≤ size
@@ -102,11 +100,10 @@ marking_few {size} {new} {k = k} M l = fit_few size new k M.fit l
 -- one turn of the loop marks the row at place k
 pub marking_more : {size : ℕ} {new : List Row} {m₀ marks marks' : List ℕ} {k : ℕ} → Marking size new m₀ marks k
     → unfit_at size new k ≡ false → marks' ≡ set marks (get_or new k 0) 1 → Marking size new m₀ marks' (k + 1)
-unfolding marked
-marking_more {size} {new} {k = k} M ok em = record {
+marking_more {size} {new} {m₀} {k = k} M ok em = record {
   fit = below_more _ k M.fit ok;
   kept = rw em (kept_set (get_or new k 0) 1 (fit_row size new k ok) M.kept);
-  same = em ∙ rw (M.same, add-one k, zero-add k);
+  same = em ∙ rw M.same (mark_more new 1 k m₀);
 }
 
 -- the code's test of the row at place k is the definition's
@@ -118,20 +115,20 @@ unfit_test {size} {new} {m₀} {marks} {k} M z l et = sym (et ∙ go (leb size r
     row : Row
     row = get_or new k 0
 
-    marked_row : row < size → Listed new 0 k row ⊎ Unlisted new 0 k row → not (eqb (get_or marks row 0) 0) ≡ elem row (take k new)
+    marked_row : row < size → Listed new k row ⊎ Unlisted new k row → not (eqb (get_or marks row 0) 0) ≡ elem row (take k new)
     marked_row b (inl t) =
         let long : row < length m₀ = omega (arith, M.kept.long, M.kept.same_length) in
-        let one : get_or marks row 0 ≡ 1 = rw M.same (marked_in new 1 0 m₀ k row long t) in
+        let one : get_or marks row 0 ≡ 1 = rw M.same (marked_in new 1 m₀ k row long t) in
         rw (
           ne_eqb (get_or marks row 0) 0 (omega arith),
-          is_earlier new k row (t.0, omega (arith, t.2), omega (arith, t.2), t.3),
+          is_earlier new k row (t.0, t.1, omega (arith, t.1), t.2),
         )
     marked_row b (inr u) =
-        let none : get_or marks row 0 ≡ 0 = rw M.same (marked_out new 1 0 m₀ k row u ∙ z row b) in
+        let none : get_or marks row 0 ≡ 0 = rw M.same (marked_out new 1 m₀ k row u ∙ z row b) in
         let new_row : elem row (take k new) ≡ false =
-        is_false _ (λ t. let j = earlier_is new k row t in u j.0 (omega arith) (omega (arith, j.1)) j.3) in
+        is_false _ (λ t. let j = earlier_is new k row t in u j.0 j.1 j.3) in
         rw (eq-eqb (get_or marks row 0) 0 none, new_row)
 
     go : (b : Bool) → leb size row ≡ b → (b || not (eqb (get_or marks row 0) 0)) ≡ (b || elem row (take k new))
     go true e = refl
-    go false e = marked_row (leb-false size row e) (listed new 0 k row)
+    go false e = marked_row (leb-false size row e) (listed new k row)

@@ -4,8 +4,8 @@ use Rattle.graph.specs.Lists.{Once, elem}
 use Rattle.graph.specs.Matchings.{Row, Col, Pattern, Perfect, partner}
 use Rattle.sparse.specs.Limits.{max_entries}
 use Rattle.sparse.specs.Matrix.{column, column_or, width, RowsBelow}
-use Rattle.sparse.specs.Refusals.{refused_if, refused_at, repeated_row}
-use Rattle.sparse.specs.declared.Checked.{Checked}
+use Rattle.sparse.specs.Refusals.{Checked, as_row, refused_if, refused_at, repeated_row}
+use Rattle.sparse.specs.declared.refusal.Refusal.TheVariants.{TooLarge, ColumnOutside, UnfitRow, MismatchedRow}
 
 -- the old matrix, and the edited one
 abbrev pub old_pattern : List ℕ → List Row → Pattern
@@ -16,7 +16,7 @@ new_pattern starts rows e new = column_or starts rows e new
 
 -- 13: the edited column is not below n
 unfoldable pub column_outside : ℕ → Col → Checked
-column_outside size e = refused_if 13 (leb size e)
+column_outside size e = refused_if ColumnOutside (leb size e)
 
 -- the replacement's row at place k is not below n, or stands at an earlier place
 abbrev pub unfit_at : ℕ → List Row → ℕ → Bool
@@ -24,7 +24,7 @@ unfit_at size new k = leb size (get_or new k 0) || elem (get_or new k 0) (take k
 
 -- 14: a replacement row not below n or repeated, at its position
 unfoldable pub unfit_row : ℕ → List Row → Checked
-unfit_row size new = refused_at 14 (unfit_at size new) (length new)
+unfit_row size new = refused_at UnfitRow (unfit_at size new) (length new)
 
 -- the column of row r is not below n, is that of an earlier row, or lacks row r
 abbrev pub mismatched_at : ℕ → Pattern → List Col → Row → Bool
@@ -32,7 +32,7 @@ mismatched_at size col m r = leb size (partner m r) || elem (partner m r) (take 
 
 -- 15: not a perfect matching of the old matrix, at the first such row
 unfoldable pub mismatched_row : ℕ → Pattern → List Col → Checked
-mismatched_row size col m = refused_at 15 (mismatched_at size col m) size
+mismatched_row size col m = refused_at (λ r. MismatchedRow (as_row r)) (mismatched_at size col m) size
 
 -- how many entries the edited matrix has
 abbrev pub edited_entries : List ℕ → List Row → Col → List Row → ℕ
@@ -40,7 +40,7 @@ edited_entries starts rows e new = length rows - width starts e + length new
 
 -- 1 once more: the edited matrix has too many entries
 unfoldable pub grown_too_large : List ℕ → List Row → Col → List Row → Checked
-grown_too_large starts rows e new = refused_if 1 (ltb max_entries (edited_entries starts rows e new))
+grown_too_large starts rows e new = refused_if TooLarge (ltb max_entries (edited_entries starts rows e new))
 
 -- 4, 13, 14, 15 and the late 1, which an edit tests once it may clear its workspace
 unfoldable pub late : ℕ → List ℕ → List Row → Col → List Row → List Col → List Checked

@@ -4,4 +4,4 @@ use Rattle.rematching.proofs.checks.check_column.Goals as goal
 
 pub returns : goal.returns
 unfolding column_outside
-returns c = c.refuse_if.ensures
+returns c = c.when.ensures

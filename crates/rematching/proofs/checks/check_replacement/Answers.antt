@@ -1,22 +1,14 @@
--- `check_replacement` meets its contract: the search has the first place, or the length.
-use mathlib.Core.Path.{◌∙◌}
-use native.Mathlib.Omega.{arith}
+-- `check_replacement` meets its contract: refused at the place that the search finds.
+use Rattle.std.proofs.Common.{sym, ◌∙◌}
+use Rattle.sparse.specs.declared.refusal.Refusal.TheVariants.{UnfitRow}
+use Rattle.sparse.proofs.Refusals.{refused_found, passed_found}
 use Rattle.rematching.specs.Checks.{unfit_row}
-use Rattle.rematching.proofs.Refusals.{found_refused, found_none}
 use Rattle.rematching.proofs.checks.check_replacement.Goals as goal
 
-pub returns-then-k-replacement : goal.returns-then-k-replacement
+pub returns-in-Some-clause-value : goal.returns-in-Some-clause-value
 unfolding unfit_row
-returns-then-k-replacement c =
-    let found = c.first_unfit-k.ensures in record {
-      value = c.refuse.ensures ∙ found_refused 14 _ _ _ found.value (omega arith);
-      same_beyond = found.same_beyond;
-    }
+returns-in-Some-clause-value c = sym (refused_found UnfitRow _ _ _ (sym c.first_unfit.ensures.value ∙ c.in-Some.is))
 
-pub returns : goal.returns
+pub returns-in-None-clause-value : goal.returns-in-None-clause-value
 unfolding unfit_row
-returns c =
-    let found = c.first_unfit-k.ensures in record {
-      value = found_none 14 _ _ _ found.value (omega arith);
-      same_beyond = found.same_beyond;
-    }
+returns-in-None-clause-value c = sym (passed_found UnfitRow _ _ (sym c.first_unfit.ensures.value ∙ c.in-None.is))
