@@ -7,7 +7,7 @@ use lib.Dec.{eqb}
 use lib.ListN.{length, get_or, take, drop}
 use lib.Seq.{drop-drop}
 use Rattle.graph.specs.Counting.{bit}
-use Rattle.graph.specs.Lists.{elem, table}
+use Rattle.graph.specs.Lists.{Once, elem, table}
 use Rattle.graph.specs.Matchings.{Row, Col, Pattern, Perfect, partner}
 use Rattle.graph.specs.Blocks.{targets, blocks}
 use Rattle.graph.proofs.Lists.{table_ext}
@@ -15,7 +15,11 @@ use Rattle.graph.proofs.Matchings.{perfect_agree}
 use Rattle.graph.proofs.Permutations.{permutes}
 use Rattle.sparse.specs.Buffers.{zeroed, filled}
 use Rattle.sparse.specs.Matrix.{column_or}
+use Rattle.sparse.specs.Columns.{columns}
 use Rattle.sparse.specs.Refusals.{Roomy}
+use Rattle.sparse.specs.declared.Column.{Column}
+use Rattle.sparse.specs.declared.mat.Edit.{Edit}
+use Rattle.sparse.specs.declared.mat.SquareMat.{SquareMat}
 use Rattle.sparse.proofs.Buffers.{drop-zeroed, front_filled}
 use Rattle.matching.specs.Matching.{Verdict, accepted, refused}
 use Rattle.matching.specs.Outcome.{marks_of}
@@ -23,12 +27,13 @@ use Rattle.matching.specs.Parts.{EndsAt, SameBeyond}
 use Rattle.matching.proofs.Ready.{short_or}
 use Rattle.blocks.specs.Cut.{HoldsBlocks}
 use Rattle.blocks.specs.Reverse.{entries, Reversible}
+use Rattle.rematching.specs.Checks.{Editable}
 use Rattle.rematching.specs.Rematching.{rematching}
+use Rattle.std.specs.Prelude.{Option, Some, None, Ok, is_some, IsSome}
+use Rattle.std.proofs.lemmas.Option.{none-some}
 use Rattle.triangular.specs.Outcome.{Work, work, Outputs, outputs, Lent, lent, cleared, form_need, starts_need, work_buffers}
-use Rattle.triangular.specs.Outcome.{output_buffers, ended, unmatchable}
+use Rattle.triangular.specs.Outcome.{output_buffers, buffers, BlockAnswer, ended, unmatchable}
 use Rattle.triangular.specs.Parts.{SameWork}
-use Rattle.triangular.specs.declared.form.BlockAnswer.{BlockAnswer}
-use Rattle.triangular.specs.declared.form.BlockAnswer.TheVariants.{Accepted}
 use Rattle.triangular.proofs.Room.{work_kept, roomy_split}
 use Rattle.triangular.proofs.Outcome.{Handed, handed_agree, hand_accepted}
 use Rattle.triangular.proofs.UnderMatching.{same_cleared}
@@ -38,29 +43,39 @@ use Rattle.edit.proofs.EditedEntries.{replacement_few, entries_roomy, edited_onc
 
 -- ---- before the search
 
+-- a square matrix without repeats, an edit of it, and room
+pub given_edit : (mat : SquareMat) (edit : Edit) (l : Lent) → ((c : Col) → c < mat.mat.size → Once (columns mat.mat c))
+    → Editable mat.mat.size mat.mat.starts.now mat.mat.rows.now edit.column.0 edit.rows.now l.outer.row2col
+    → Roomy (buffers mat.mat.size (edit_entries mat.mat.size mat.mat.rows.now) l)
+    → Given mat.mat.size mat.mat.starts.now mat.mat.rows.now edit.column.0 edit.rows.now l
+given_edit mat edit l once editable room =
+    record { valid = record { shaped = mat.mat.shaped; below = mat.below; once = once }; editable = editable; room = room }
+
 -- ---- what the search hands on
 
--- where a search ends at the size there is a matching, it stands in the slice, and no column is marked
-ends_handed : {size r : ℕ} {m hall : List ℕ} (v : List ℕ) (o : Outputs) (verdict : Verdict) → EndsAt size v m r verdict → size ≤ r
-    → size ≤ length m → SameBeyond size o.row2col m → hall ≡ zeroed size o.hall → Handed size o verdict m hall
-ends_handed {size} {m = m} v o (accepted cols) E l long same z = record {
+-- where a search did not fail there is a matching, it stands in the slice, and no column is marked
+ends_handed : {size : ℕ} {r : Option Column} {m hall : List ℕ} (v : List ℕ) (o : Outputs) (verdict : Verdict)
+    → EndsAt size v m r verdict → r ≡ None → size ≤ length m → SameBeyond size o.row2col m → hall ≡ zeroed size o.hall
+    → Handed size o verdict m hall
+ends_handed {size} {r = None} {m = m} v o (accepted cols) E f long same z = record {
   cols = cols;
   verdict = refl;
-  filled_with = front_filled size cols o.row2col m long E.1 same;
+  filled_with = front_filled size cols o.row2col m long E same;
   unmarked = z;
 }
-ends_handed v o (refused c seen) E l long same z = absurd (omega (arith, E.0, E.1))
+ends_handed {r = None} v o (refused c seen) E f long same z = absurd E
+ends_handed {r = Some d} v o verdict E f long same z = absurd (none-some d (sym f))
 
--- where it ends before, the old matching stays, and the stamps tell the marks
-ends_refused : {size r : ℕ} {m hall cols ends : List ℕ} (col : Pattern) (w : Work) (v : List ℕ) (o : Outputs) (verdict : Verdict)
-    → EndsAt size v m r verdict → r < size → m ≡ o.row2col
-    → hall ≡ filled (table (λ d. bit (eqb (get_or v d 0) (r + 1))) size) o.hall → cols ≡ zeroed (form_need size) o.blockcols
+-- where it failed, the old matching stays, and the stamps tell the marks
+ends_refused : (size : ℕ) {m hall cols ends : List ℕ} (failed : Column) (col : Pattern) (w : Work) (v : List ℕ) (o : Outputs)
+    (verdict : Verdict) → EndsAt size v m (Some failed) verdict → m ≡ o.row2col
+    → hall ≡ filled (table (λ d. bit (eqb (get_or v d 0) (failed.0 + 1))) size) o.hall → cols ≡ zeroed (form_need size) o.blockcols
     → ends ≡ zeroed (starts_need size) o.blockstarts
-    → ended (unmatchable r) (lent w (outputs m hall cols ends)) ≡ handed_out size col w o verdict
+    → ended (unmatchable failed.0) (lent w (outputs m hall cols ends)) ≡ handed_out size col w o verdict
 unfolding marks_of
-ends_refused col w v o (accepted p) E l em eh ec es = absurd (omega (arith, E.0))
-ends_refused {size} {r} col w v o (refused c seen) E l em eh ec es =
-    let marks : table (λ d. bit (eqb (get_or v d 0) (r + 1))) size ≡ table (λ d. bit (elem d seen)) size =
+ends_refused size failed col w v o (accepted p) E em eh ec es = absurd E
+ends_refused size failed col w v o (refused c seen) E em eh ec es =
+    let marks : table (λ d. bit (eqb (get_or v d 0) (failed.0 + 1))) size ≡ table (λ d. bit (elem d seen)) size =
     table_ext _ _ size (λ d j. ap bit (ap (λ (x : ℕ). eqb (get_or v d 0) (x + 1)) E.0 ∙ E.2 d j)) in
     rw (em, eh, ec, es, marks, E.0)
 
@@ -94,11 +109,11 @@ fewer_room j w l R =
 -- ---- after the search
 
 -- an edit whose search returned r, and left v and c as stamps and cheap places, s and t as the stack, and m as the matching
-pub record Searched (size : ℕ) (starts : List ℕ) (rows : List Row) (e : Col) (new : List Row) (l : Lent) (r : ℕ)
+pub record Searched (size : ℕ) (starts : List ℕ) (rows : List Row) (e : Col) (new : List Row) (l : Lent) (r : Option Column)
     (v c s t m : List ℕ) : Type 0 where
   pub given : Given size starts rows e new l
   pub ends : EndsAt size v m r (rematching size (column_or starts rows e new) (take size l.outer.row2col) e)
-  pub kept : r < size → m ≡ l.outer.row2col
+  pub kept : IsSome r → m ≡ l.outer.row2col
   pub matching : SameBeyond size l.outer.row2col m
   pub visited : SameBeyond size l.inner.visited v
   pub cheap : SameBeyond size l.inner.cheap c
@@ -110,19 +125,43 @@ pub record Searched (size : ℕ) (starts : List ℕ) (rows : List Row) (e : Col)
   pub cols_length : length s ≡ length l.inner.scol
   pub places_length : length t ≡ length l.inner.sat
 
-module _ {size : ℕ} {starts : List ℕ} {rows : List Row} {e : Col} {new : List Row} {l : Lent} {r : ℕ} {v c s t m : List ℕ}
-    (S : Searched size starts rows e new l r v c s t m) where
+-- a search over stamps and cheap places that were cleared
+pub searched : {size : ℕ} {starts : List ℕ} {rows : List Row} {e : Col} {new : List Row} {r : Option Column}
+    {v₁ c₁ v c s t m : List ℕ} (l : Lent) → Given size starts rows e new l → v₁ ≡ zeroed size l.inner.visited
+    → c₁ ≡ zeroed size l.inner.cheap → EndsAt size v m r (rematching size (column_or starts rows e new) (take size l.outer.row2col) e)
+    → (IsSome r → m ≡ l.outer.row2col) → SameBeyond size l.outer.row2col m
+    → SameBeyond size v₁ v × SameBeyond size c₁ c × SameBeyond size l.inner.scol s × SameBeyond size l.inner.sat t
+    → length m ≡ length l.outer.row2col → length v ≡ length l.inner.visited → length c ≡ length l.inner.cheap
+    → length s ≡ length l.inner.scol → length t ≡ length l.inner.sat → Searched size starts rows e new l r v c s t m
+searched {size} l G zv zc E k same beyond lm lv lc ls lt = record {
+  given = G;
+  ends = E;
+  kept = k;
+  matching = same;
+  visited = cleared_beyond size l.inner.visited _ _ zv beyond.0;
+  cheap = cleared_beyond size l.inner.cheap _ _ zc beyond.1;
+  cols = beyond.2;
+  places = beyond.3;
+  matching_length = lm;
+  visited_length = lv;
+  cheap_length = lc;
+  cols_length = ls;
+  places_length = lt;
+}
+
+module _ {size : ℕ} {starts : List ℕ} {rows : List Row} {e : Col} {new : List Row} {l : Lent} {r : Option Column}
+    {v c s t m : List ℕ} (S : Searched size starts rows e new l r v c s t m) where
   -- the matching is as long as the size
   long : size ≤ length m
   long = omega (arith, S.matching_length, S.given.room.1.1.1.1.1.1.1.1.0)
 
-  -- it ended at the size: the verdict's matching is handed on
-  handed : {hall : List ℕ} → size ≤ r → hall ≡ zeroed size l.outer.hall
+  -- it did not fail: the verdict's matching is handed on
+  handed : {hall : List ℕ} → r ≡ None → hall ≡ zeroed size l.outer.hall
       → Handed size l.outer (rematching size (column_or starts rows e new) (take size l.outer.row2col) e) m hall
   handed k z = ends_handed v l.outer _ S.ends k long S.matching z
 
   -- under it the graph of the edited matrix can be reversed
-  pub searched_reversible : size ≤ r → Reversible size (column_or starts rows e new) m
+  pub searched_reversible : r ≡ None → Reversible size (column_or starts rows e new) m
   searched_reversible k =
       let H = handed k refl in
       let D = decides S.given in
@@ -147,10 +186,10 @@ module _ {size : ℕ} {starts : List ℕ} {rows : List Row} {e : Col} {new : Lis
       (roomy_split (work_buffers size (edit_entries size rows) l.inner) (output_buffers size l.outer) S.given.room).0)
 
   -- accepted: the blocks cut are handed out
-  pub searched_accepted : {hall cols ends : List ℕ} {k : ℕ} → size ≤ r → hall ≡ zeroed size l.outer.hall
+  pub searched_accepted : {hall cols ends : List ℕ} {k : ℕ} → r ≡ None → hall ≡ zeroed size l.outer.hall
       → HoldsBlocks size (blocks size (targets (column_or starts rows e new) m)) l.outer.blockcols
       l.outer.blockstarts cols ends k
-      → (w : Work) → ended (Accepted k) (lent w (outputs m hall cols ends)) ≡ handed_out size (column_or starts rows e new) w l.outer
+      → (w : Work) → ended (Ok k) (lent w (outputs m hall cols ends)) ≡ handed_out size (column_or starts rows e new) w l.outer
       (rematching size (column_or starts rows e new) (take size l.outer.row2col) e)
   searched_accepted j z B w =
       let H = handed j z in
@@ -158,14 +197,14 @@ module _ {size : ℕ} {starts : List ℕ} {rows : List Row} {e : Col} {new : Lis
       ∙ rw H.verdict
 
   -- refused: the old matching, the marks and no blocks are handed out
-  pub searched_refused : {hall cols ends : List ℕ} {answer : BlockAnswer} → r < size → answer ≡ unmatchable r
-      → hall ≡ filled (table (λ d. bit (eqb (get_or v d 0) (r + 1))) size) l.outer.hall
+  pub searched_refused : {failed : Column} {hall cols ends : List ℕ} {answer : BlockAnswer} → r ≡ Some failed
+      → answer ≡ unmatchable failed.0 → hall ≡ filled (table (λ d. bit (eqb (get_or v d 0) (failed.0 + 1))) size) l.outer.hall
       → cols ≡ zeroed (form_need size) l.outer.blockcols → ends ≡ zeroed (starts_need size) l.outer.blockstarts
       → (w : Work) → ended answer (lent w (outputs m hall cols ends)) ≡ handed_out size (column_or starts rows e new) w l.outer
       (rematching size (column_or starts rows e new) (take size l.outer.row2col) e)
-  searched_refused k a eh ec es w =
-      rw a (ends_refused (column_or starts rows e new) w v l.outer
-      (rematching size (column_or starts rows e new) (take size l.outer.row2col) e) S.ends k (S.kept k) eh ec es)
+  searched_refused {failed} f a eh ec es w =
+      rw a (ends_refused size failed (column_or starts rows e new) w v l.outer
+      (rematching size (column_or starts rows e new) (take size l.outer.row2col) e) (rw f at S.ends) (S.kept (ap is_some f)) eh ec es)
 
   -- the search changed four slices of the workspace, below the need
   same : SameWork size (edit_entries size rows) l.inner (work v c l.inner.finished l.inner.col2row

@@ -1,6 +1,5 @@
 // The entry of the edit.
 ghost use Rattle.std.specs.Prelude.{◌≡◌};
-ghost use Rattle.sparse.specs.Matrix.{Shaped, RowsBelow};
 ghost use Rattle.sparse.specs.Refusals.{Roomy};
 ghost use Rattle.triangular.specs.Outcome.{Work, work, outputs, lent, buffers, cleared, ended};
 ghost use Rattle.edit.specs.Outcome.{edit_entries, replaced, outcome, Means};
@@ -9,17 +8,13 @@ use super::valid::edit_valid;
 use rematching::checks::check_edit;
 use sparse::checks::check_early;
 use sparse::slices::clear;
-use sparse::{Checked, Column};
-use triangular::BlockAnswer;
+use sparse::{Column, Edit, Refusal, SquareMat};
 use triangular::form::{clear_work, lacks_room};
 
 // The edit of a matrix that refusals 1, 2, 5 and 3 let through. What the workspace holds afterwards is the caller's to clear.
-fn edit_tested<'a>(
-    size: u32,
-    starts: &[u32],
-    rows: &'a [u32],
-    edited: Column,
-    replacement: &'a [u32],
+fn edit_tested(
+    mat: &SquareMat,
+    edit: &Edit,
     visited: &mut [u32],
     cheap: &mut [u32],
     finished: &mut [u32],
@@ -32,38 +27,23 @@ fn edit_tested<'a>(
     hall: &mut [u32],
     blockcols: &mut [u32],
     blockstarts: &mut [u32],
-) -> BlockAnswer
-    requires shaped { Shaped size starts.now rows.now × RowsBelow rows.now size }
-    requires roomy { Roomy (buffers size (edit_entries size rows.now) (lent (work visited.old cheap.old finished.old col2row.old
-        backstarts.old backrows.old scol.old sat.old) (outputs row2col.old hall.old blockcols.old blockstarts.old))) }
+) -> Result<u32, Refusal>
+    requires { Roomy (buffers mat.now.mat.size (edit_entries mat.now.mat.size mat.now.mat.rows.now) (lent (work visited.old
+        cheap.old finished.old col2row.old backstarts.old backrows.old scol.old sat.old) (outputs row2col.old hall.old blockcols.old
+        blockstarts.old))) }
     ensures blockstarts_after { (w : Work) → ended result (lent w (outputs row2col.new hall.new blockcols.new
-        blockstarts.new)) ≡ replaced size starts.now rows.now edited.0 replacement.now w
-        (outputs row2col.old hall.old blockcols.old blockstarts.old) }
-    ensures sat_unchanged { cleared size (edit_entries size rows.now) (work visited.new cheap.new
+        blockstarts.new)) ≡ replaced mat.now.mat.size mat.now.mat.starts.now mat.now.mat.rows.now edit.now.column.0
+        edit.now.rows.now w (outputs row2col.old hall.old blockcols.old blockstarts.old) }
+    ensures sat_unchanged { cleared mat.now.mat.size (edit_entries mat.now.mat.size mat.now.mat.rows.now) (work visited.new cheap.new
         finished.new col2row.new backstarts.new backrows.new scol.new sat.new)
-        ≡ cleared size (edit_entries size rows.now) (work visited.old cheap.old finished.old
+        ≡ cleared mat.now.mat.size (edit_entries mat.now.mat.size mat.now.mat.rows.now) (work visited.old cheap.old finished.old
         col2row.old backstarts.old backrows.old scol.old sat.old) }
 {
-    clear(visited, size);
-    let checked = check_edit(
-        size,
-        starts,
-        rows,
-        edited,
-        replacement,
-        row2col,
-        visited,
-        col2row,
-    );
-    if let Checked::Refused(r) = checked {
-        return BlockAnswer::Refused(r);
-    }
+    clear(visited, mat.mat.size);
+    check_edit(mat, edit, row2col, visited, col2row)?;
     edit_valid(
-        size,
-        starts,
-        rows,
-        edited,
-        replacement,
+        mat,
+        edit,
         visited,
         cheap,
         finished,
@@ -81,12 +61,12 @@ fn edit_tested<'a>(
 
 // One column of a matrix replaced: the old matching, lent in row2col, becomes one of the edited matrix, along one path, and the blocks
 // follow; or the first refusal of the table, 9 with the marks of a Hall set and the old matching as it was.
-pub fn edit_column<'a>(
+pub fn edit_column(
     size: u32,
     starts: &[u32],
-    rows: &'a [u32],
+    rows: &[u32],
     edited: Column,
-    replacement: &'a [u32],
+    replacement: &[u32],
     visited: &mut [u32],
     cheap: &mut [u32],
     finished: &mut [u32],
@@ -99,7 +79,7 @@ pub fn edit_column<'a>(
     hall: &mut [u32],
     blockcols: &mut [u32],
     blockstarts: &mut [u32],
-) -> BlockAnswer
+) -> Result<u32, Refusal>
     ensures outcome { ended result (lent (work visited.new cheap.new finished.new col2row.new
         backstarts.new backrows.new scol.new sat.new) (outputs row2col.new
         hall.new blockcols.new blockstarts.new))
@@ -131,16 +111,14 @@ pub fn edit_column<'a>(
         blockcols,
         blockstarts,
     );
-    let first = check_early(size, starts, rows, short);
-    if let Checked::Refused(r) = first {
-        return BlockAnswer::Refused(r);
-    }
+    let mat = check_early(size, starts, rows, short)?;
+    let edit = Edit {
+        column: edited,
+        rows: replacement,
+    };
     let answer = edit_tested(
-        size,
-        starts,
-        rows,
-        edited,
-        replacement,
+        &mat,
+        &edit,
         visited,
         cheap,
         finished,
