@@ -2,7 +2,6 @@
 use Prim.Native.Nat.{ℕ, suc, ◌+◌, ◌-◌, ◌<◌, ◌≤◌}
 use mathlib.Core.Path.{◌≡◌, refl, sym, ap, ◌∙◌, fun_ext}
 use mathlib.Core.Bool.{Bool, true, false}
-use mathlib.Core.List.Memᴰ
 use mathlib.Core.List.{List, [], ◌∷◌}
 use mathlib.Core.Logic.{◌↔◌}
 use native.Mathlib.Decide.{ℕ_discrete}
@@ -10,26 +9,27 @@ use native.Mathlib.Omega.{arith}
 use borrow.Author.Tests.{eq-eqb, ne_eqb}
 use lib.Dec.{eqb}
 use lib.ListN.{length, get_or, take, drop}
-use lib.Seq.{drop-set-lt}
 use Rattle.graph.specs.Lists.{Mem, elem}
 use Rattle.graph.specs.Matchings.{Row, Col, Pattern, Inside}
 use Rattle.graph.specs.Paths.{Ending, failed, found, augment}
 use Rattle.graph.proofs.Edits.{edited_same, edited_other}
 use Rattle.graph.proofs.Lists.{elem_mem, not_elem}
-use Rattle.graph.proofs.Search.{AllBelow}
 use Rattle.sparse.specs.Limits.{none, max_entries}
 use Rattle.sparse.specs.Matrix.{column, column_or, Shaped, RowsBelow}
 use Rattle.sparse.proofs.Matrix.{column_beyond, inside}
 use Rattle.sparse.specs.Refusals.{as_column}
 use Rattle.std.specs.Prelude.{Some, None}
+use Rattle.matching.specs.Work.{Stays, SameWork}
+use Rattle.matching.specs.declared.search.SearchWork.{SearchWork}
 use Rattle.matching.specs.Matching.{search, accepted, refused, match_from, matching}
-use Rattle.matching.specs.Parts.{Fresh, EndsAt, SameBeyond}
-use Rattle.matching.specs.Search.{stamped, Cheap, is_found, moved, SearchEnds}
+use Rattle.matching.specs.Parts.{Fresh, EndsAt}
+use Rattle.matching.specs.Search.{stamped, Cheap, is_found, moved, SearchReady, SearchEnds}
 use Rattle.matching.proofs.Front.{agree_take, search_agree, take-moved, drop-moved}
 use Rattle.matching.proofs.Matching.{match_found, match_failed}
 use Rattle.matching.proofs.Ready.{column_short}
+use Rattle.matching.proofs.Work.{stays_then, work_then}
 use Rattle.matching.proofs.Searching.{visited_below}
-use Rattle.matching.proofs.Stamps.{set_keeps, stamped_is, Kept, kept_start}
+use Rattle.matching.proofs.Stamps.{set_keeps, stamped_is}
 
 -- ---- no column replaced
 
@@ -50,92 +50,59 @@ pub stamped_le : (mark bound : ℕ) (s : List Col) (v : List ℕ) (d : Col) → 
 stamped_le mark bound [] v d l h = h
 stamped_le mark bound (c ∷ s) v d l h = set_keeps (λ x. x ≤ bound) (stamped mark s v) c mark d l (stamped_le mark bound s v d l h)
 
--- stamping columns below n leaves the rest as it was
-pub drop-stamped : (n mark : ℕ) (s : List Col) (v : List ℕ) → AllBelow n s → drop n (stamped mark s v) ≡ drop n v
-drop-stamped n mark [] v b = refl
-drop-stamped n mark (c ∷ s) v b =
-    drop-set-lt n (stamped mark s v) c mark (b c (Memᴰ.head refl)) ∙ drop-stamped n mark s v (λ d i. b d (Memᴰ.tail i))
-
 -- ---- between two searches
 
--- five slices have room for n, and are as they were beyond that
-pub record Slices (n : ℕ) (v₀ h₀ s₀ a₀ m₀ v h s a m : List ℕ) : Type 0 where
-  pub visited : Kept n v₀ v
-  pub cheap : Kept n h₀ h
-  pub cols : Kept n s₀ s
-  pub places : Kept n a₀ a
-  pub matching : Kept n m₀ m
-
 -- the searches from column c on lead to the rule's verdict, no stamp is larger than c, cheap places are sound, and the rest is as it was
-pub record Going (n : ℕ) (col : Pattern) (c : Col) (visited₀ cheap₀ scol₀ sat₀ row2col₀ visited cheap scol sat row2col : List ℕ)
+pub record Going (n : ℕ) (col : Pattern) (c : Col) (work₀ : SearchWork) (row2col₀ : List ℕ) (work : SearchWork) (row2col : List ℕ)
     : Type 0 where
   pub inside : Inside n col
   pub short : (d : Col) → length (col d) ≤ max_entries
-  pub below : c ≤ n
+  pub fresh : Fresh n work₀.visited.now work₀.cheap.now work₀.scol.now work₀.sat.now row2col₀
   pub leads : match_from n col (n - c) c (take n row2col) ≡ matching n col
-  pub stamps : (d : Col) → d < n → get_or visited d 0 ≤ c
-  pub sound : Cheap n col row2col cheap
-  pub slices : Slices n visited₀ cheap₀ scol₀ sat₀ row2col₀ visited cheap scol sat row2col
+  pub stamps : (d : Col) → d < n → get_or work.visited.now d 0 ≤ c
+  pub sound : Cheap n col row2col work.cheap.now
+  pub same_work : SameWork n work₀ work
+  pub matching : Stays n row2col₀ row2col
 
 -- before the first
-pub going_start : {n : ℕ} {col : Pattern} {visited cheap scol sat row2col : List ℕ} → Inside n col
-    → ((d : Col) → length (col d) ≤ max_entries) → Fresh n visited cheap scol sat row2col
-    → Going n col 0 visited cheap scol sat row2col visited cheap scol sat row2col
+pub searches_start : {size : ℕ} {starts rows row2col : List ℕ} (work : SearchWork) → Shaped size starts rows → RowsBelow rows size
+    → Fresh size work.visited.now work.cheap.now work.scol.now work.sat.now row2col
+    → Going size (column starts rows) 0 work row2col work row2col
 unfolding matching
-going_start {n} {col} {visited} {cheap} {scol} {sat} {row2col} I short F = record {
-  inside = I;
-  short = short;
-  below = omega arith;
-  leads = let z : n - 0 ≡ n = omega arith in rw (z, F.free) refl;
+searches_start {size} work S low F = record {
+  inside = inside S low;
+  short = column_short S;
+  fresh = F;
+  leads = let z : size - 0 ≡ size = omega arith in rw (z, F.free) refl;
   stamps = λ d l. omega (arith, F.unvisited d l);
   sound = λ d l k j. absurd (omega (arith, F.unlooked d l));
-  slices = record {
-    visited = kept_start n visited F.visited_long;
-    cheap = kept_start n cheap F.cheap_long;
-    cols = kept_start n scol F.cols_long;
-    places = kept_start n sat F.places_long;
-    matching = kept_start n row2col F.matching_long;
+  same_work = record {
+    slices = refl;
+    visited = record { same_length = refl; beyond = refl };
+    cheap = record { same_length = refl; beyond = refl };
+    cols = record { same_length = refl; beyond = refl };
+    places = record { same_length = refl; beyond = refl };
   };
+  matching = record { same_length = refl; beyond = refl };
 }
 
--- the search of column c ended: what it leaves of the slices
-pub record Made (n : ℕ) (col : Pattern) (c : Col) (visited cheap scol sat row2col visited' cheap' scol' sat' row2col' : List ℕ)
-    (answer : Bool) : Type 0 where
-  pub ends : SearchEnds n col row2col c (c + 1) visited cheap visited' cheap' row2col' answer
-  pub cols_beyond : drop n scol' ≡ drop n scol
-  pub places_beyond : drop n sat' ≡ drop n sat
-  pub visited_length : length visited' ≡ length visited
-  pub cheap_length : length cheap' ≡ length cheap
-  pub cols_length : length scol' ≡ length scol
-  pub places_length : length sat' ≡ length sat
-  pub matching_length : length row2col' ≡ length row2col
-
--- as the search's contract says it
-pub made : {n : ℕ} {col : Pattern} {c : Col} {v h s a m v' h' s' a' m' : List ℕ} {answer : Bool}
-    → SearchEnds n col m c (c + 1) v h v' h' m' answer → (drop n s' ≡ drop n s) × (drop n a' ≡ drop n a) → length v' ≡ length v
-    → length h' ≡ length h → length s' ≡ length s → length a' ≡ length a → length m' ≡ length m
-    → Made n col c v h s a m v' h' s' a' m' answer
-made E b lv lh ls la lm = record {
-  ends = E;
-  cols_beyond = b.0;
-  places_beyond = b.1;
-  visited_length = lv;
-  cheap_length = lh;
-  cols_length = ls;
-  places_length = la;
-  matching_length = lm;
+-- then the next search can be made, with a stamp of its own
+pub going_ready : {n : ℕ} {col : Pattern} {c : Col} {w₀ w : SearchWork} {m₀ m : List ℕ} → Going n col c w₀ m₀ w m → c < n
+    → SearchReady n col m c (c + 1) w.visited.now w.cheap.now w.scol.now w.sat.now
+going_ready G l = record {
+  inside = G.inside;
+  short = G.short;
+  below = l;
+  unstamped = λ d k e. omega (arith, G.stamps d k);
+  sound = G.sound;
+  matching_long = omega (arith, G.fresh.matching_long, G.matching.same_length);
+  stamps_long = omega (arith, G.fresh.visited_long, G.same_work.visited.same_length);
+  cheap_long = omega (arith, G.fresh.cheap_long, G.same_work.cheap.same_length);
+  cols_long = omega (arith, G.fresh.cols_long, G.same_work.cols.same_length);
+  places_long = omega (arith, G.fresh.places_long, G.same_work.places.same_length);
 }
 
--- a slice that is kept, and of which then only the first n numbers change, is kept
-kept_then : {n : ℕ} {a₀ a a' : List ℕ} → Kept n a₀ a → length a' ≡ length a → drop n a' ≡ drop n a → Kept n a₀ a'
-kept_then K l e = record { long = omega (arith, K.long); same_length = l ∙ K.same_length; beyond = e ∙ K.beyond }
-
--- what the search leaves beyond n
-pub visited_beyond : {n : ℕ} {col : Pattern} {c : Col} {m visited cheap visited' cheap' m' : List ℕ} {answer : Bool} → c < n
-    → SearchEnds n col m c (c + 1) visited cheap visited' cheap' m' answer → drop n visited' ≡ drop n visited
-visited_beyond {n} {col} {c} {m} {visited} l E =
-    ap (drop n) E.visits ∙ drop-stamped n (c + 1) (search n col m n [] c).visited visited (visited_below n col m c l)
-
+-- what the search of column c leaves of the matching beyond n
 pub matching_beyond : {n : ℕ} {col : Pattern} {c : Col} {m visited cheap visited' cheap' m' : List ℕ} {answer : Bool} → Inside n col
     → c < n → SearchEnds n col m c (c + 1) visited cheap visited' cheap' m' answer → drop n m' ≡ drop n m
 matching_beyond {n} {col} {c} {m} I l E = ap (drop n) E.matched ∙ drop-moved n col m c I l
@@ -155,16 +122,13 @@ same_ending : {n : ℕ} {col : Pattern} (m : List Col) (c : Col) → Inside n co
 same_ending {n} {col} m c I = sym (search_agree n col m (take n m) I (agree_take n m) n [] c)
 
 -- a search keeps the slices, whatever it answers
-pub made_slices : {n : ℕ} {col : Pattern} {c : Col} {v₀ h₀ s₀ a₀ m₀ v h s a m v' h' s' a' m' : List ℕ} {answer : Bool}
-    → Going n col c v₀ h₀ s₀ a₀ m₀ v h s a m → c < n → Made n col c v h s a m v' h' s' a' m' answer
-    → Slices n v₀ h₀ s₀ a₀ m₀ v' h' s' a' m'
-made_slices G l M = record {
-  visited = kept_then G.slices.visited M.visited_length (visited_beyond l M.ends);
-  cheap = kept_then G.slices.cheap M.cheap_length M.ends.cheap_beyond;
-  cols = kept_then G.slices.cols M.cols_length M.cols_beyond;
-  places = kept_then G.slices.places M.places_length M.places_beyond;
-  matching = kept_then G.slices.matching M.matching_length (matching_beyond G.inside l M.ends);
-}
+pub going_kept : {n : ℕ} {col : Pattern} {c : Col} {w₀ w w' : SearchWork} {m₀ m m' : List ℕ} {answer : Bool} → Going n col c w₀ m₀ w m
+    → c < n → SearchEnds n col m c (c + 1) w.visited.now w.cheap.now w'.visited.now w'.cheap.now m' answer → SameWork n w w'
+    → length m' ≡ length m → SameWork n w₀ w' × Stays n m₀ m'
+going_kept G l E W k = (
+  work_then G.same_work W,
+  stays_then G.matching (record { same_length = k; beyond = matching_beyond G.inside l E }),
+)
 
 -- where it found a path, the searches go on from the next column
 pub leads_on : {n : ℕ} {col : Pattern} {c : Col} (m : List Col) {m' : List Col} → Inside n col → c < n
@@ -181,28 +145,28 @@ leads_on {n} {col} {c} m {m'} I l L T E =
     ∙ sym (match_found n col (n - (c + 1)) c (take n m) t.0 t.1 t.2)
     ∙ ap (λ (x : ℕ). match_from n col x c (take n m)) (sym k) ∙ L
 
-pub going_more : {n : ℕ} {col : Pattern} {c : Col} {v₀ h₀ s₀ a₀ m₀ v h s a m v' h' s' a' m' : List ℕ}
-    → Going n col c v₀ h₀ s₀ a₀ m₀ v h s a m → c < n → Made n col c v h s a m v' h' s' a' m' true
-    → Going n col (c + 1) v₀ h₀ s₀ a₀ m₀ v' h' s' a' m'
-going_more {n} {col} {c} {v = v} {m = m} {v' = v'} G l M = record {
+pub going_more : {n : ℕ} {col : Pattern} {c : Col} {w₀ w w' : SearchWork} {m₀ m m' : List ℕ} → Going n col c w₀ m₀ w m → c < n
+    → SearchEnds n col m c (c + 1) w.visited.now w.cheap.now w'.visited.now w'.cheap.now m' true → SameWork n w w'
+    → length m' ≡ length m → Going n col (c + 1) w₀ m₀ w' m'
+going_more {n} {col} {c} {w = w} {m = m} G l E W k = let kept = going_kept G l E W k in record {
   inside = G.inside;
   short = G.short;
-  below = omega arith;
-  leads = leads_on m G.inside l G.leads M.ends.answered M.ends.matched;
-  stamps = λ d k. rw M.ends.visits (stamped_le (c + 1) (c + 1) (search n col m n [] c).visited v d (omega arith) (omega
-      (arith, G.stamps d k)));
-  sound = M.ends.sound;
-  slices = made_slices G l M;
+  fresh = G.fresh;
+  leads = leads_on m G.inside l G.leads E.answered E.matched;
+  stamps = λ d k. rw E.visits (stamped_le (c + 1) (c + 1) (search n col m n [] c).visited w.visited.now d (omega arith)
+      (omega (arith, G.stamps d k)));
+  sound = E.sound;
+  same_work = kept.0;
+  matching = kept.1;
 }
 
 -- where it failed, that is the rule's verdict, and the stamp tells the columns it visited
-pub going_failed : {n : ℕ} {col : Pattern} {c : Col} {v₀ h₀ s₀ a₀ m₀ v h s a m v' h' s' a' m' : List ℕ}
-    → Going n col c v₀ h₀ s₀ a₀ m₀ v h s a m → c < n → Made n col c v h s a m v' h' s' a' m' false
-    → EndsAt n v' m' (Some (as_column c)) (matching n col)
-going_failed {n} {col} {c} {v = v} {m = m} {v' = v'} {m' = m'} G l M = rw verdict (refl, l, stamp)
+pub going_failed : {n : ℕ} {col : Pattern} {c : Col} {w₀ w : SearchWork} {m₀ m v' h' m' : List ℕ} → Going n col c w₀ m₀ w m → c < n
+    → SearchEnds n col m c (c + 1) w.visited.now w.cheap.now v' h' m' false → EndsAt n v' m' (Some (as_column c)) (matching n col)
+going_failed {n} {col} {c} {w = w} {m = m} {v' = v'} {m' = m'} G l E = rw verdict (refl, l, stamp)
   where
     f : (search n col (take n m) n [] c).ending ≡ failed
-    f = failed_path _ (M.ends.answered ∙ ap is_found (ap (λ s. s.ending) (sym (same_ending m c G.inside))))
+    f = failed_path _ (E.answered ∙ ap is_found (ap (λ s. s.ending) (sym (same_ending m c G.inside))))
 
     verdict : matching n col ≡ refused c (search n col m n [] c).visited
     verdict =
@@ -211,35 +175,23 @@ going_failed {n} {col} {c} {v = v} {m = m} {v' = v'} {m' = m'} G l M = rw verdic
         ∙ ap (λ s. refused c s.visited) (same_ending m c G.inside)
 
     is : (d : Col) → d < n
-        → (get_or (stamped (c + 1) (search n col m n [] c).visited v) d 0 ≡ c + 1) ↔ Mem d (search n col m n [] c).visited
-    is d k = stamped_is n (c + 1) (search n col m n [] c).visited v d G.slices.visited.long
+        → (get_or (stamped (c + 1) (search n col m n [] c).visited w.visited.now) d 0 ≡ c + 1) ↔ Mem d (search n col m n [] c).visited
+    is d k = stamped_is n (c + 1) (search n col m n [] c).visited w.visited.now d (going_ready G l).stamps_long
         (λ x j e. omega (arith, G.stamps x j)) (visited_below n col m c l) k
 
     stamp : (d : Col) → d < n → eqb (get_or v' d 0) (c + 1) ≡ elem d (search n col m n [] c).visited
-    stamp d k = rw M.ends.visits (go (elem d (search n col m n [] c).visited) refl)
+    stamp d k = rw E.visits (go (elem d (search n col m n [] c).visited) refl)
       where
         go : (b : Bool) → elem d (search n col m n [] c).visited ≡ b
-            → eqb (get_or (stamped (c + 1) (search n col m n [] c).visited v) d 0) (c + 1) ≡ b
+            → eqb (get_or (stamped (c + 1) (search n col m n [] c).visited w.visited.now) d 0) (c + 1) ≡ b
         go true e = eq-eqb _ _ ((is d k).1 (elem_mem d _ e))
         go false e = ne_eqb _ _ (λ z. not_elem d _ e ((is d k).0 z))
 
 -- after the last the matching stands in the slice
-pub going_end : {n : ℕ} {col : Pattern} {c : Col} {v₀ h₀ s₀ a₀ m₀ v h s a m : List ℕ}
-    → Going n col c v₀ h₀ s₀ a₀ m₀ v h s a m → n ≤ c → EndsAt n v m None (matching n col)
+pub going_end : {n : ℕ} {col : Pattern} {c : Col} {w₀ w : SearchWork} {m₀ m : List ℕ} → Going n col c w₀ m₀ w m → n ≤ c
+    → EndsAt n w.visited.now m None (matching n col)
 unfolding match_from
 going_end {n} {col} {c} {m = m} G l =
     let z : n - c ≡ 0 = omega arith in
     let w : match_from n col (n - c) c (take n m) ≡ accepted (take n m) = ap (λ (x : ℕ). match_from n col x c (take n m)) z in
     rw (sym G.leads, w) refl
-
--- ---- in storage
-
-pub searches_start : {size : ℕ} {starts rows visited cheap scol sat row2col : List ℕ} → Shaped size starts rows → RowsBelow rows size
-    → Fresh size visited cheap scol sat row2col
-    → Going size (column starts rows) 0 visited cheap scol sat row2col visited cheap scol sat row2col
-searches_start S low F = going_start (inside S low) (column_short S) F
-
--- what stands beyond n of the matching, and then of workspace and stack, is as it was
-pub slices_beyond : {n : ℕ} {v₀ h₀ s₀ a₀ m₀ v h s a m : List ℕ} → Slices n v₀ h₀ s₀ a₀ m₀ v h s a m
-    → SameBeyond n m₀ m × (SameBeyond n v₀ v × SameBeyond n h₀ h × SameBeyond n s₀ s × SameBeyond n a₀ a)
-slices_beyond K = (K.matching.beyond, (K.visited.beyond, K.cheap.beyond, K.cols.beyond, K.places.beyond))

@@ -14,3 +14,4 @@ pub mod Ready
 pub mod Columns
 pub mod Outcome
 pub mod Marking
+pub mod Work

@@ -28,7 +28,7 @@ use Rattle.sparse.proofs.Early.{Early, early_passed, early_passes, early_number,
 use Rattle.sparse.proofs.Matrix.{inside, column_once}
 use Rattle.sparse.proofs.Passing.{repeats_pass}
 use Rattle.matching.specs.Matching.{Verdict, accepted, refused, matching}
-use Rattle.matching.specs.Outcome.{Lent, lent, matching_need, buffers, cleared, Outcome, ended}
+use Rattle.matching.specs.Outcome.{Lent, buffers, cleared, Outcome, ended}
 use Rattle.matching.specs.Outcome.{marks_of}
 use Rattle.matching.specs.Outcome.{handed_out, tested, outcome, Given, HallMarks, Means}
 use Rattle.matching.specs.Parts.{Fresh, EndsAt, SameBeyond}
@@ -94,11 +94,6 @@ cleared_same size l k a b e f g h =
       zeroed_same size l.scol k.scol g,
       zeroed_same size l.sat k.sat h,
     )
-
--- cleared one after the other, workspace and stack are cleared
-pub cleared_all : (size need : ℕ) (v c s t v' c' s' t' a b : List ℕ) → need ≡ matching_need size → v' ≡ zeroed need v → c' ≡ zeroed need c
-    → s' ≡ zeroed size s → t' ≡ zeroed size t → lent v' c' s' t' a b ≡ cleared size (lent v c s t a b) a b
-cleared_all size need v c s t v' c' s' t' a b e f g h i = rw (f, g, h, i, e)
 
 -- a slice filled, or cleared, below n is as it was beyond
 pub filled_beyond : (n v : ℕ) (xs : List ℕ) {ys : List ℕ} → ys ≡ replicate n v ++ drop n xs → SameBeyond n xs ys

@@ -34,6 +34,12 @@ pub length-stamped : (mark : ℕ) (s : List Col) (v : List ℕ) → length (stam
 length-stamped mark [] v = refl
 length-stamped mark (c ∷ s) v = length-set (stamped mark s v) c mark ∙ length-stamped mark s v
 
+-- stamping columns below n leaves the rest as it was
+pub drop-stamped : (n mark : ℕ) (s : List Col) (v : List ℕ) → AllBelow n s → drop n (stamped mark s v) ≡ drop n v
+drop-stamped n mark [] v b = refl
+drop-stamped n mark (c ∷ s) v b =
+    drop-set-lt n (stamped mark s v) c mark (b c (Memᴰ.head refl)) ∙ drop-stamped n mark s v (λ d i. b d (Memᴰ.tail i))
+
 -- a column of the list has the stamp
 pub stamped_in : (n mark : ℕ) (s : List Col) (v : List ℕ) (c : Col) → n ≤ length v → AllBelow n s → Mem c s
     → get_or (stamped mark s v) c 0 ≡ mark

@@ -13,9 +13,10 @@ use Rattle.graph.specs.Paths.{Ending, failed, found}
 use Rattle.graph.proofs.Paths.{length-augment, unwind, unwind_is, path_once, path_rows, path_free}
 use Rattle.graph.proofs.Search.{Visit, visit_found}
 use Rattle.matching.specs.Matching.{search}
+use Rattle.matching.specs.Work.{Stays}
 use Rattle.matching.specs.Search.{Cheap, is_found, moved, stamped, SearchReady, SearchEnds}
 use Rattle.matching.proofs.Searching.{search_visits}
-use Rattle.matching.proofs.Stamps.{set_keeps, kept_start}
+use Rattle.matching.proofs.Stamps.{set_keeps, kept_start, length-stamped, drop-stamped}
 use Rattle.matching.proofs.Stack.{Goal, Into}
 use Rattle.matching.proofs.Walk.{Stage, entering, failing, finding, Failing, Finding, Walk, Slices}
 
@@ -135,20 +136,32 @@ walk_end {n} {col} {m} {c} {mark} {v₀} {h₀} {cs₀} {ps₀} {v} {h} {cs} {ps
     go (failing F) = lost F
     go (finding F) = won F
 
--- the same as the loop knows it, and the stack beyond n is as it was
+-- the same as the loop knows it, and each slice stays
 pub walk_done : {n : ℕ} {col : Pattern} {m : List Col} {c : Col} {mark : ℕ} {v₀ h₀ cs ps cs₀ v h cs' ps' r : List ℕ} {hit : Bool} {d : ℕ}
     → SearchReady n col m c mark v₀ h₀ cs ps → cs₀ ≡ set cs 0 c → d ≡ 0
     → Walk (goal_of n col m (get_or cs₀ 0 0)) mark v₀ h₀ cs₀ ps v h cs' ps' r hit d
-    → SearchEnds n col m c mark v₀ h₀ v h r hit × ((drop n cs' ≡ drop n cs) × (drop n ps' ≡ drop n ps))
+    → SearchEnds n col m c mark v₀ h₀ v h r hit × (Stays n v₀ v × Stays n h₀ h × Stays n cs cs' × Stays n ps ps')
 walk_done {n} {col} {m} {c} {mark} {v₀} {h₀} {cs} {ps} {cs₀} {v} {h} {cs'} {ps'} {r} {hit} {d} R e z W =
     let top : get_or (set cs 0 c) 0 0 ≡ c = get_or-set_same cs 0 c 0 (omega (arith, R.below, R.cols_long)) in
     let start : get_or cs₀ 0 0 ≡ c = ap (λ x. get_or x 0 0) e ∙ top in
     let W' : Walk (goal_of n col m c) mark v₀ h₀ cs₀ ps v h cs' ps' r hit 0 =
     subst (λ x. Walk (goal_of n col m c) mark v₀ h₀ cs₀ ps v h cs' ps' r hit x) z
     (subst (λ x. Walk (goal_of n col m x) mark v₀ h₀ cs₀ ps v h cs' ps' r hit d) start W) in
+    let S = W.slices in
     let low : 0 < n = omega (arith, R.below) in (
       walk_end R.below W',
-      (W.slices.cols_kept.beyond ∙ ap (drop n) e ∙ drop-set-lt n cs 0 c low, W.slices.places_kept.beyond),
+      (
+        record {
+          same_length = ap length S.stamps ∙ length-stamped mark W.s v₀;
+          beyond = ap (drop n) S.stamps ∙ drop-stamped n mark W.s v₀ S.below;
+        },
+        record { same_length = S.cheap_kept.same_length; beyond = S.cheap_kept.beyond },
+        record {
+          same_length = S.cols_kept.same_length ∙ ap length e ∙ length-set cs 0 c;
+          beyond = S.cols_kept.beyond ∙ ap (drop n) e ∙ drop-set-lt n cs 0 c low;
+        },
+        record { same_length = S.places_kept.same_length; beyond = S.places_kept.beyond },
+      ),
     )
 
 -- the matching keeps its length

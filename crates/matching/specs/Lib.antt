@@ -3,3 +3,4 @@ pub mod MatchingSamples
 pub mod Search
 pub mod Outcome
 pub mod Parts
+pub mod Work

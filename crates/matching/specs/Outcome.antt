@@ -10,6 +10,7 @@ use Rattle.sparse.specs.Refusals.{Checked, passed, as_column, number_of, place_o
 use Rattle.sparse.specs.Refusals.{Buffer, buffer, Roomy, early, repeated_row}
 use Rattle.sparse.specs.declared.refusal.Refusal.{Refusal}
 use Rattle.sparse.specs.declared.refusal.Refusal.TheVariants.{Unmatchable}
+use Rattle.matching.specs.declared.search.SearchWork.{SearchWork}
 use Rattle.matching.specs.Matching.{Verdict, accepted, refused, matching, Matchable}
 
 -- ---- the lent buffers
@@ -26,6 +27,10 @@ pub record Lent : Type 0 where
 abbrev pub lent : List ℕ → List ℕ → List Col → List ℕ → List Col → List ℕ → Lent
 lent visited cheap scol sat row2col hall =
     record { visited = visited; cheap = cheap; scol = scol; sat = sat; row2col = row2col; hall = hall }
+
+-- what a search works in, and the outputs
+abbrev pub lent_by : SearchWork → List Col → List ℕ → Lent
+lent_by work row2col hall = lent work.visited.now work.cheap.now work.scol.now work.sat.now row2col hall
 
 -- how much is needed of each workspace slice: n; so the workspace is two slices of n, 2 n numbers in all
 abbrev pub matching_need : ℕ → ℕ

@@ -8,10 +8,11 @@ ghost use Rattle.sparse.specs.Limits.{max_size};
 ghost use Rattle.sparse.specs.Parts.{ZeroBelow};
 ghost use Rattle.sparse.specs.Refusals.{one_short, Roomy};
 ghost use Rattle.matching.specs.Matching.{Verdict, matching};
-ghost use Rattle.matching.specs.Outcome.{Lent, lent, buffers, matching_need, cleared, handed_out, tested, outcome, ended, Means};
+ghost use Rattle.matching.specs.Outcome.{Lent, lent_by, buffers, matching_need, cleared, handed_out, tested, outcome, ended, Means};
 ghost use Rattle.matching.specs.Parts.{Fresh, EndsAt, SameBeyond};
+ghost use Rattle.matching.specs.Work.{holding, SameSlices, SameWork};
 
-use super::search::search;
+use super::search::{SearchWork, search};
 use sparse::checks::{check_early, check_repeats};
 use sparse::slices::{clear, fill, get, put};
 use sparse::{Column, EditedMat, NONE, Refusal, SquareMat};
@@ -24,43 +25,27 @@ pub fn matching_need(size: u32) -> u32
 }
 
 // Whether a buffer is shorter than its need.
-fn lacks_room(
-    size: u32,
-    visited: &[u32],
-    cheap: &[u32],
-    scol: &[u32],
-    sat: &[u32],
-    row2col: &[u32],
-    hall: &[u32],
-) -> bool
-    ensures { result ≡ one_short (buffers size (lent visited.now cheap.now scol.now sat.now
-        row2col.now hall.now)) }
+fn lacks_room(size: u32, work: &SearchWork, row2col: &[u32], hall: &[u32]) -> bool
+    ensures { result ≡ one_short (buffers size (lent_by work.now row2col.now hall.now)) }
 {
     let need = matching_need(size) as usize;
     let size = size as usize;
-    (visited.len() < need)
-        | (cheap.len() < need)
-        | (scol.len() < size)
-        | (sat.len() < size)
+    (work.visited.len() < need)
+        | (work.cheap.len() < need)
+        | (work.scol.len() < size)
+        | (work.sat.len() < size)
         | (row2col.len() < size)
         | (hall.len() < size)
 }
 
 // A search from each column in turn: the first column whose search failed, if one did. A stamp of its own tells each search's visits
 // from earlier ones, so nothing is cleared between two.
-fn match_columns(
-    mat: &SquareMat,
-    visited: &mut [u32],
-    cheap: &mut [u32],
-    scol: &mut [u32],
-    sat: &mut [u32],
-    row2col: &mut [u32],
-) -> Option<Column>
-    requires { Fresh mat.now.mat.size visited.old cheap.old scol.old sat.old row2col.old }
-    ensures ends_at { EndsAt mat.now.mat.size visited.new row2col.new result (matching mat.now.mat.size (columns mat.now.mat)) }
+fn match_columns(mat: &SquareMat, work: &mut SearchWork, row2col: &mut [u32]) -> Option<Column>
+    requires { Fresh mat.now.mat.size work.old.visited.now work.old.cheap.now work.old.scol.now work.old.sat.now row2col.old }
+    ensures ends_at { EndsAt mat.now.mat.size work.new.visited.now row2col.new result
+        (matching mat.now.mat.size (columns mat.now.mat)) }
     ensures same_beyond { SameBeyond mat.now.mat.size row2col.old row2col.new }
-    ensures work_beyond { SameBeyond mat.now.mat.size visited.old visited.new × SameBeyond mat.now.mat.size cheap.old cheap.new
-        × SameBeyond mat.now.mat.size scol.old scol.new × SameBeyond mat.now.mat.size sat.old sat.new }
+    ensures same_work { SameWork mat.now.mat.size work.old work.new }
 {
     let unedited = EditedMat {
         mat: mat.mat,
@@ -68,7 +53,7 @@ fn match_columns(
     };
     for c in 0..mat.mat.size {
         let col = Column(c);
-        if !search(&unedited, col, c + 1, visited, cheap, scol, sat, row2col) {
+        if !search(&unedited, col, c + 1, work, row2col) {
             return Some(col);
         }
     }
@@ -91,19 +76,19 @@ pub fn mark_hall(size: u32, visited: &[u32], stamp: u32, hall: &mut [u32])
 fn hand_out(
     size: u32,
     failed: Option<Column>,
-    visited: &[u32],
+    work: &SearchWork,
     row2col: &mut [u32],
     hall: &mut [u32],
 ) -> Result<(), Refusal>
     requires below { IfSome failed (λ c. c.0 < size) }
-    requires roomy { (size ≤ max_size) × (size ≤ length visited.now) × (size ≤ length row2col.old) × (size ≤ length hall.old) }
-    ensures { (l : Lent) (v : Verdict) → EndsAt size visited.now row2col.old failed v
+    requires roomy { (size ≤ max_size) × (size ≤ length work.now.visited.now) × (size ≤ length row2col.old) × (size ≤ length hall.old) }
+    ensures { (l : Lent) (v : Verdict) → EndsAt size work.now.visited.now row2col.old failed v
         → SameBeyond size l.row2col row2col.old → hall.old ≡ l.hall
         → ended result (cleared size l row2col.new hall.new) ≡ handed_out size l v }
 {
     if let Some(c) = failed {
         clear(row2col, size);
-        mark_hall(size, visited, c.0 + 1, hall);
+        mark_hall(size, work.visited, c.0 + 1, hall);
         return Err(Refusal::Unmatchable(c));
     }
     clear(hall, size);
@@ -113,61 +98,54 @@ fn hand_out(
 // The matching of a valid matrix, over stamps that are zero. What the workspace holds afterwards is the caller's to clear.
 pub fn match_valid(
     mat: &SquareMat,
-    visited: &mut [u32],
-    cheap: &mut [u32],
-    scol: &mut [u32],
-    sat: &mut [u32],
+    work: &mut SearchWork,
     row2col: &mut [u32],
     hall: &mut [u32],
 ) -> Result<(), Refusal>
-    requires roomy { Roomy (buffers mat.now.mat.size (lent visited.old cheap.old scol.old sat.old row2col.old hall.old)) }
-    requires unmarked { ZeroBelow mat.now.mat.size visited.old }
+    requires roomy { Roomy (buffers mat.now.mat.size (lent_by work.old row2col.old hall.old)) }
+    requires unmarked { ZeroBelow mat.now.mat.size work.old.visited.now }
     ensures hall_after { (l : Lent) → l.row2col ≡ row2col.old → l.hall ≡ hall.old
         → ended result (cleared mat.now.mat.size l row2col.new hall.new)
         ≡ handed_out mat.now.mat.size l (matching mat.now.mat.size (columns mat.now.mat)) }
-    ensures same_beyond { SameBeyond mat.now.mat.size visited.old visited.new × SameBeyond mat.now.mat.size cheap.old cheap.new
-        × SameBeyond mat.now.mat.size scol.old scol.new × SameBeyond mat.now.mat.size sat.old sat.new }
+    ensures same_work { SameWork mat.now.mat.size work.old work.new }
 {
     let size = mat.mat.size;
-    clear(cheap, size);
+    clear(work.cheap, size);
     fill(row2col, size, NONE);
-    let failed = match_columns(mat, visited, cheap, scol, sat, row2col);
-    hand_out(size, failed, visited, row2col, hall)
+    let failed = match_columns(mat, work, row2col);
+    hand_out(size, failed, work, row2col, hall)
 }
 
 // Refusal 4, for which the stamps serve as marks, and then the matching.
 fn match_tested(
     mat: &SquareMat,
-    visited: &mut [u32],
-    cheap: &mut [u32],
-    scol: &mut [u32],
-    sat: &mut [u32],
+    work: &mut SearchWork,
     row2col: &mut [u32],
     hall: &mut [u32],
 ) -> Result<(), Refusal>
-    requires roomy { Roomy (buffers mat.now.mat.size (lent visited.old cheap.old scol.old sat.old row2col.old hall.old)) }
-    requires unmarked { ZeroBelow mat.now.mat.size visited.old }
+    requires roomy { Roomy (buffers mat.now.mat.size (lent_by work.old row2col.old hall.old)) }
+    requires unmarked { ZeroBelow mat.now.mat.size work.old.visited.now }
     ensures hall_after { (l : Lent) → l.row2col ≡ row2col.old → l.hall ≡ hall.old
         → ended result (cleared mat.now.mat.size l row2col.new hall.new)
         ≡ tested mat.now.mat.size mat.now.mat.starts.now mat.now.mat.rows.now l }
-    ensures same_beyond { SameBeyond mat.now.mat.size visited.old visited.new × SameBeyond mat.now.mat.size cheap.old cheap.new
-        × SameBeyond mat.now.mat.size scol.old scol.new × SameBeyond mat.now.mat.size sat.old sat.new }
+    ensures same_work { SameWork mat.now.mat.size work.old work.new }
 {
-    check_repeats(mat, visited)?;
-    match_valid(mat, visited, cheap, scol, sat, row2col, hall)
+    check_repeats(mat, work.visited)?;
+    match_valid(mat, work, row2col, hall)
 }
 
 // The workspace and the stack become zero over their needs.
-fn clear_work(size: u32, visited: &mut [u32], cheap: &mut [u32], scol: &mut [u32], sat: &mut [u32])
-    requires { (size ≤ length visited.old) × (size ≤ length cheap.old) × (size ≤ length scol.old) × (size ≤ length sat.old) }
-    ensures { (a b : List ℕ) → lent visited.new cheap.new scol.new sat.new a b
-        ≡ cleared size (lent visited.old cheap.old scol.old sat.old a b) a b }
+fn clear_work(size: u32, work: &mut SearchWork)
+    requires { (size ≤ length work.old.visited.now) × (size ≤ length work.old.cheap.now) × (size ≤ length work.old.scol.now)
+        × (size ≤ length work.old.sat.now) }
+    ensures { work.new ≡ holding work.old (zeroed (matching_need size) work.old.visited.now)
+        (zeroed (matching_need size) work.old.cheap.now) (zeroed size work.old.scol.now) (zeroed size work.old.sat.now) }
 {
     let need = matching_need(size);
-    clear(visited, need);
-    clear(cheap, need);
-    clear(scol, size);
-    clear(sat, size);
+    clear(work.visited, need);
+    clear(work.cheap, need);
+    clear(work.scol, size);
+    clear(work.sat, size);
 }
 
 // A row for each column of a matrix, as the column of each row; or the first refusal of the table, 9 with the marks of a Hall set.
@@ -175,25 +153,20 @@ pub fn find_diag_matching(
     size: u32,
     starts: &[u32],
     rows: &[u32],
-    visited: &mut [u32],
-    cheap: &mut [u32],
-    scol: &mut [u32],
-    sat: &mut [u32],
+    work: &mut SearchWork,
     row2col: &mut [u32],
     hall: &mut [u32],
 ) -> Result<(), Refusal>
-    ensures outcome { ended result (lent visited.new cheap.new scol.new sat.new
-        row2col.new hall.new)
-        ≡ outcome size starts.now rows.now (lent visited.old cheap.old scol.old
-        sat.old row2col.old hall.old) }
-    ensures meaning { Means size starts.now rows.now
-        (lent visited.old cheap.old scol.old sat.old row2col.old hall.old)
-        (lent visited.new cheap.new scol.new sat.new row2col.new hall.new) result }
+    ensures outcome { ended result (lent_by work.new row2col.new hall.new)
+        ≡ outcome size starts.now rows.now (lent_by work.old row2col.old hall.old) }
+    ensures meaning { Means size starts.now rows.now (lent_by work.old row2col.old hall.old)
+        (lent_by work.new row2col.new hall.new) result }
+    ensures same_slices { SameSlices work.old work.new }
 {
-    let short = lacks_room(size, visited, cheap, scol, sat, row2col, hall);
+    let short = lacks_room(size, work, row2col, hall);
     let mat = check_early(size, starts, rows, short)?;
-    clear(visited, size);
-    let answer = match_tested(&mat, visited, cheap, scol, sat, row2col, hall);
-    clear_work(size, visited, cheap, scol, sat);
+    clear(work.visited, size);
+    let answer = match_tested(&mat, work, row2col, hall);
+    clear_work(size, work);
     answer
 }

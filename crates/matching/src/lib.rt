@@ -5,3 +5,4 @@ pub mod diagonal;
 pub mod search;
 
 pub use diagonal::find_diag_matching;
+pub use search::SearchWork;

@@ -1,13 +1,23 @@
 // One search of the matching: from a column without a row, along rows and the columns that have them, to a free row.
-ghost use Rattle.std.specs.Prelude.{◌≡◌, ◌≢◌, ℕ, ◌+◌, ◌≤◌, ◌<◌, length, get_or, drop};
+ghost use Rattle.std.specs.Prelude.{◌≡◌, ◌≢◌, ℕ, ◌+◌, ◌≤◌, ◌<◌, length, get_or};
 ghost use Rattle.sparse.specs.Columns.{edited_columns};
 ghost use Rattle.sparse.specs.Limits.{max_size, max_entries};
 ghost use Rattle.sparse.specs.Matrix.{RowsBelow};
 ghost use Rattle.matching.specs.Search.{SearchReady, SearchEnds};
 ghost use Rattle.matching.specs.Parts.{col_at, OpenPlace, Advance};
+ghost use Rattle.matching.specs.Work.{SameWork};
 
 use sparse::slices::{get, put};
 use sparse::{Column, EditedMat, OriginalRow};
+
+// What a search works in: by column the stamp of its last visit and its cheap place, and the stack's columns and places.
+#[derive(Drop)]
+pub struct SearchWork<'a> {
+    pub visited: &'a mut [u32],
+    pub cheap: &'a mut [u32],
+    pub scol: &'a mut [u32],
+    pub sat: &'a mut [u32],
+}
 
 // The column that has the row at a place.
 fn col_at(col: &[u32], row2col: &[u32], k: u32) -> Column
@@ -68,22 +78,21 @@ pub fn search(
     mat: &EditedMat,
     start: Column,
     mark: u32,
-    visited: &mut [u32],
-    cheap: &mut [u32],
-    scol: &mut [u32],
-    sat: &mut [u32],
+    work: &mut SearchWork,
     row2col: &mut [u32],
 ) -> bool
     requires { SearchReady mat.now.mat.size (edited_columns mat.now) row2col.old start.0 mark
-        visited.old cheap.old scol.old sat.old }
-    ensures search_ends { SearchEnds mat.now.mat.size (edited_columns mat.now)
-        row2col.old start.0 mark visited.old cheap.old
-        visited.new cheap.new row2col.new result }
-    ensures scol_unchanged { (drop mat.now.mat.size scol.new ≡ drop mat.now.mat.size scol.old)
-        × (drop mat.now.mat.size sat.new ≡ drop mat.now.mat.size sat.old) }
+        work.old.visited.now work.old.cheap.now work.old.scol.now work.old.sat.now }
+    ensures search_ends { SearchEnds mat.now.mat.size (edited_columns mat.now) row2col.old start.0 mark
+        work.old.visited.now work.old.cheap.now work.new.visited.now work.new.cheap.now row2col.new result }
+    ensures same_work { SameWork mat.now.mat.size work.old work.new }
 {
-    // A copy, so that no step reads it through the reference.
+    // Copies, so that no step reads them through a reference.
     let mat = *mat;
+    let visited = &mut *work.visited;
+    let cheap = &mut *work.cheap;
+    let scol = &mut *work.scol;
+    let sat = &mut *work.sat;
     let size = mat.mat.size;
     let mut found = false;
     let mut depth = 1u32;

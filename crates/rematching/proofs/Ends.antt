@@ -24,7 +24,7 @@ use Rattle.std.specs.Prelude.{Option, Some, None, IsSome}
 use Rattle.matching.specs.Matching.{search, refused}
 use Rattle.matching.specs.Parts.{EndsAt, SameBeyond}
 use Rattle.matching.specs.Search.{Unstamped, stamped, is_found, moved, SearchReady, SearchEnds}
-use Rattle.matching.proofs.Columns.{visited_beyond, matching_beyond}
+use Rattle.matching.proofs.Columns.{matching_beyond}
 use Rattle.matching.proofs.Front.{agree_take, search_agree, take-moved}
 use Rattle.matching.proofs.Ready.{short_or}
 use Rattle.matching.proofs.Searching.{visited_below}
@@ -141,13 +141,11 @@ edit_restored {n} {col} {e = e} {m' = m'} m M l E =
 
 -- ---- how `rematch` returns
 
--- what it leaves besides the stack where it returns a column or none, and v₀, h₀ and m₀ were before
-pub record Leaves (n : ℕ) (col : Pattern) (e : Col) (answer : Option Column) (v₀ h₀ m₀ v h m : List ℕ) : Type 0 where
+-- what it leaves of stamps and matching where it returns a column or none, and the matching was m₀ before
+pub record Leaves (n : ℕ) (col : Pattern) (e : Col) (answer : Option Column) (m₀ v m : List ℕ) : Type 0 where
   pub ends : EndsAt n v m answer (rematching n col (take n m₀) e)
   pub kept : IsSome answer → m ≡ m₀
   pub matching : SameBeyond n m₀ m
-  pub visited : SameBeyond n v₀ v
-  pub cheap : SameBeyond n h₀ h
 
 -- where the row freed is the former row, the search was made in the matching with that row free
 as_freed : {n k : ℕ} {col : Pattern} {e : Col} {v₀ h₀ v h m₁ m' : List ℕ} {answer : Bool} (m : List Col) (row : Row) (b : Bool)
@@ -159,7 +157,7 @@ as_freed m row b f g a E = rw (sym a, sym f, sym g) E
 pub leaves_found : {size : ℕ} {starts rows new v₀ h₀ v h m m₁ m' : List ℕ} {e : Col} {answer : Bool} (row : Row)
     → Shaped size starts rows → RowsBelow rows size → Editable size starts rows e new m → row ≡ former size m e → m₁ ≡ set m row none
     → SearchEnds size (column_or starts rows e new) m₁ e (e + 1) v₀ h₀ v h m' answer → answer ≡ true
-    → Leaves size (column_or starts rows e new) e None v₀ h₀ m v h m'
+    → Leaves size (column_or starts rows e new) e None m v m'
 leaves_found {size} {new = new} {m = m} {e = e} row S low D f g E a =
     let F = as_freed m row true f g a E in
     let I = edited_inside e new S low D.new_below D.below in
@@ -167,8 +165,6 @@ leaves_found {size} {new = new} {m = m} {e = e} row S low D f g E a =
       ends = edit_found m I D.perfect D.below F;
       kept = λ l. absurd (apart false l refl);
       matching = matching_beyond I D.below F ∙ drop-set-lt size m (former size m e) none (row_of D.perfect e D.below).0;
-      visited = visited_beyond D.below F;
-      cheap = F.cheap_beyond;
     }
 
 -- it returns the column after none was found, with the former row given back
@@ -176,7 +172,7 @@ pub leaves_failed : {size : ℕ} {starts rows new v₀ h₀ s₀ a₀ v h m m₁
     → Shaped size starts rows → RowsBelow rows size → Editable size starts rows e new m → Unused size v₀ h₀ s₀ a₀ m
     → row ≡ former size m e → m₁ ≡ set m row none
     → SearchEnds size (column_or starts rows e new) m₁ e (e + 1) v₀ h₀ v h m' answer → answer ≡ false → m'' ≡ set m' row e
-    → Leaves size (column_or starts rows e new) e (Some (as_column e)) v₀ h₀ m v h m''
+    → Leaves size (column_or starts rows e new) e (Some (as_column e)) m v m''
 leaves_failed {size} {new = new} {m = m} {m' = m'} {m'' = m''} {e = e} row S low D U f g E a b =
     let F = as_freed m row false f g a E in
     let I = edited_inside e new S low D.new_below D.below in
@@ -185,6 +181,4 @@ leaves_failed {size} {new = new} {m = m} {m' = m'} {m'' = m''} {e = e} row S low
       ends = edit_failed m m'' I D.perfect D.below U.visited_long (λ d l z. omega (arith, U.unvisited d l)) F;
       kept = λ l. same;
       matching = ap (drop size) same;
-      visited = visited_beyond D.below F;
-      cheap = F.cheap_beyond;
     }

@@ -2,14 +2,14 @@
 use Prim.Native.Nat.{ℕ, ◌+◌, ◌≤◌, ◌<◌}
 use mathlib.Core.Path.{◌≡◌, refl, sym, ap, ◌∙◌}
 use mathlib.Core.Logic.{◌⊎◌, inl, inr, ◌≢◌}
-use mathlib.Core.List.{List, ◌++◌}
+use mathlib.Core.List.{List}
 use mathlib.Core.Bool.{Bool, true, false, ◌||◌, not}
 use native.Mathlib.Decide.{ℕ_discrete}
 use native.Mathlib.Omega.{arith}
 use borrow.Author.Count.{below_more}
 use borrow.Author.Tests.{leb-false, lt-leb, eq-eqb, ne_eqb, not-false}
 use lib.Dec.{leb, eqb}
-use lib.ListN.{length, get_or, set, take, drop, replicate, length-replicate, get_or-replicate, get_or-append}
+use lib.ListN.{length, get_or, set, take}
 use lib.Seq.{ext_get_or, get_or-take, get_or-set_same, get_or-set_other, length-take-le}
 use Rattle.graph.specs.Lists.{Mem, elem}
 use Rattle.graph.specs.Matchings.{Row, Col, Pattern, Perfect, partner}
@@ -24,7 +24,6 @@ use Rattle.sparse.specs.declared.refusal.Refusal.TheVariants.{MismatchedRow}
 use Rattle.sparse.proofs.Refusals.{at_passed, refused_none}
 use Rattle.matching.proofs.Stamps.{Kept, kept_set}
 use Rattle.rematching.specs.Checks.{mismatched_at, mismatched_row}
-use Rattle.rematching.specs.Parts.{NoneBelow}
 use Rattle.rematching.proofs.Earlier.{earlier_is, is_earlier}
 
 -- a row that is not mismatched: its column is below n, is that of no earlier row, and has the row
@@ -105,12 +104,6 @@ pub record Recording (n : ℕ) (col : Pattern) (m q₀ q : List ℕ) (r : Row) :
   pub kept : Kept n q₀ q
   pub placed : (j : Row) → j < r → get_or q (partner m j) 0 ≡ j
   pub others : (c : Col) → c < n → ((j : Row) → j < r → partner m j ≢ c) → get_or q c 0 ≡ none
-
--- a slice whose front was filled with none starts so
-pub none_below : (n : ℕ) (xs : List ℕ) {ys : List ℕ} → ys ≡ replicate n none ++ drop n xs → NoneBelow n ys
-none_below n xs e i l =
-    let front : i < length (replicate n none) = omega (arith, length-replicate {A = ℕ} n none) in
-    rw e (get_or-append (replicate n none) (drop n xs) 0 i front ∙ get_or-replicate n i none 0 l)
 
 -- the code's test of row r and its column c is the definition's
 pub mismatch_test : {n : ℕ} {col : Pattern} {m q₀ q : List ℕ} {r : Row} {c : Col} {t : Bool} → Recording n col m q₀ q r

@@ -3,17 +3,19 @@ use Rattle.std.proofs.Common.{arith, Err, sym, ap, refl, ◌∙◌}
 use Rattle.std.proofs.lemmas.Result.{err_from_is_err_and}
 use Rattle.sparse.specs.Refusals.{Checked, checked}
 use Rattle.sparse.proofs.Early.{early_passed}
-use Rattle.matching.specs.Outcome.{lent, ended}
+use Rattle.matching.specs.declared.search.SearchWork.{SearchWork}
+use Rattle.matching.specs.Outcome.{lent_by, ended}
 use Rattle.matching.proofs.Outcome.{early_outcome, tested_outcome, outcome_means, cleared_same, filled_beyond}
+use Rattle.matching.proofs.Work.{slices_then}
 use Rattle.matching.proofs.diagonal.find_diag_matching.Goals as goal
 
 pub returns-in_err-mat : goal.returns-in_err-mat
 returns-in_err-mat c =
     let p = err_from_is_err_and c.from_residual.result c.from_residual.ensures.1 in
-    let l = lent c.args.visited.now c.args.cheap.now c.args.scol.now c.args.sat.now c.args.row2col.now c.args.hall.now in
+    let l = lent_by c.args.work.now c.args.row2col.now c.args.hall.now in
     let o = ap (λ (a : Checked). ended a l) (p.1 ∙ ap (λ r. Err r) p.2)
     ∙ early_outcome _ _ _ l _ (sym (c.check_early.ensures.value _ c.lacks_room-short.ensures) ∙ ap checked c.in_err-mat.was) in
-    record { outcome = o; meaning = outcome_means _ _ _ _ _ _ o }
+    record { outcome = o; meaning = outcome_means _ _ _ _ _ _ o; same_slices = refl }
 
 pub clear-requires : goal.clear-requires
 clear-requires c =
@@ -21,27 +23,33 @@ clear-requires c =
 
 pub match_tested-answer-requires-clause-roomy : goal.match_tested-answer-requires-clause-roomy
 match_tested-answer-requires-clause-roomy c =
-    let room = (early_passed _ _ _ _ (sym (c.check_early.ensures.value _ c.lacks_room-short.ensures) ∙ ap checked c.in_ok-mat.was)).room in
-    rw c.in_ok-mat.ensures.size (omega (arith, room.0, c.clear.auto), room.1)
+    let early = early_passed _ _ _ _ (sym (c.check_early.ensures.value _ c.lacks_room-short.ensures) ∙ ap checked c.in_ok-mat.was) in
+    rw c.in_ok-mat.ensures.size (omega (arith, early.room.0, c.clear.auto), early.room.1)
 
 pub clear_work-requires : goal.clear_work-requires
 clear_work-requires c =
-    let room = (early_passed _ _ _ _ (sym (c.check_early.ensures.value _ c.lacks_room-short.ensures) ∙ ap checked c.in_ok-mat.was)).room in (
-      omega (arith, room.0, c.clear.auto, c.match_tested-answer.auto.visited),
-      omega (arith, room.1.0, c.match_tested-answer.auto.cheap),
-      omega (arith, room.1.1.0, c.match_tested-answer.auto.scol),
-      omega (arith, room.1.1.1.0, c.match_tested-answer.auto.sat),
+    let early = early_passed _ _ _ _ (sym (c.check_early.ensures.value _ c.lacks_room-short.ensures) ∙ ap checked c.in_ok-mat.was) in
+    let W = c.match_tested-answer.ensures.same_work in (
+      omega (arith, early.room.0, c.clear.auto, W.visited.same_length),
+      omega (arith, early.room.1.0, W.cheap.same_length),
+      omega (arith, early.room.1.1.0, W.cols.same_length),
+      omega (arith, early.room.1.1.1.0, W.places.same_length),
     )
 
 pub returns : goal.returns
 returns c =
-    let l = lent c.args.visited.now c.args.cheap.now c.args.scol.now c.args.sat.now c.args.row2col.now c.args.hall.now in
+    let l = lent_by c.args.work.now c.args.row2col.now c.args.hall.now in
     let new = c.match_tested-answer.new in
-    let same = rw c.in_ok-mat.ensures.size at c.match_tested-answer.ensures.same_beyond in
+    let W = rw c.in_ok-mat.ensures.size at c.match_tested-answer.ensures.same_work in
     let gives = rw (c.in_ok-mat.ensures.size, c.in_ok-mat.ensures.starts, c.in_ok-mat.ensures.rows)
     at c.match_tested-answer.ensures.hall_after l refl refl in
-    let o = ap (ended c.match_tested-answer.result) (c.clear_work.ensures new.row2col new.hall
-    ∙ cleared_same c.args.size l (lent new.visited new.cheap new.scol new.sat new.row2col new.hall) new.row2col new.hall
-    (same.0 ∙ filled_beyond c.args.size 0 c.args.visited.now c.clear.ensures) same.1 same.2 same.3) ∙ gives
-    ∙ tested_outcome _ _ _ _ (sym (c.check_early.ensures.value _ c.lacks_room-short.ensures) ∙ ap checked c.in_ok-mat.was) in
-    record { outcome = o; meaning = outcome_means _ _ _ _ _ _ o }
+    let visited = W.visited.beyond ∙ filled_beyond c.args.size 0 c.args.work.now.visited.now c.clear.ensures in
+    let o = ap (λ (w : SearchWork). ended c.match_tested-answer.result (lent_by w new.row2col new.hall)) c.clear_work.ensures
+    ∙ ap (ended c.match_tested-answer.result) (cleared_same c.args.size l (lent_by new.work new.row2col new.hall) new.row2col new.hall
+    visited W.cheap.beyond W.cols.beyond W.places.beyond)
+    ∙ gives ∙ tested_outcome _ _ _ _ (sym (c.check_early.ensures.value _ c.lacks_room-short.ensures) ∙ ap checked c.in_ok-mat.was) in
+    record {
+      outcome = o;
+      meaning = outcome_means _ _ _ _ _ _ o;
+      same_slices = slices_then c.args.work.now new.work _ W.slices (rw c.clear_work.ensures refl);
+    }

@@ -4,6 +4,4 @@ use Rattle.sparse.specs.Columns.{columns}
 use Rattle.matching.proofs.diagonal.match_columns.Given as goal
 
 abbrev pub invariant-loop-c : goal.invariant-loop-c
-invariant-loop-c l =
-    Going l.mat.mat.size (columns l.mat.mat) l.c l.initial.visited l.initial.cheap l.initial.scol l.initial.sat l.initial.row2col
-    l.visited l.cheap l.scol l.sat l.row2col
+invariant-loop-c l = Going l.mat.mat.size (columns l.mat.mat) l.c l.initial.work l.initial.row2col l.work l.row2col

@@ -5,14 +5,14 @@ use Rattle.sparse.specs.Limits.{none}
 use lib.ListN.{drop}
 use native.Mathlib.Omega.{arith}
 use mathlib.Core.Path.{◌∙◌, ap, sym}
-use Rattle.matching.specs.Outcome.{lent}
+use Rattle.matching.specs.Outcome.{lent_by}
 use Rattle.matching.proofs.Outcome.{fresh, filled_beyond, failed_below}
+use Rattle.matching.proofs.Work.{stays_then}
 use Rattle.matching.proofs.diagonal.match_valid.Goals as goal
 
 pub match_columns-failed-requires : goal.match_columns-failed-requires
 match_columns-failed-requires c =
-    fresh c.args.mat.now.mat.size
-    (lent c.args.visited.now c.args.cheap.now c.args.scol.now c.args.sat.now c.args.row2col.now c.args.hall.now)
+    fresh c.args.mat.now.mat.size (lent_by c.args.work.now c.args.row2col.now c.args.hall.now)
     c.requires.roomy c.requires.unmarked c.clear.ensures c.fill.ensures (omega (arith, c.clear.auto)) (omega (arith, c.fill.auto))
 
 pub hand_out-requires : goal.hand_out-requires
@@ -21,22 +21,27 @@ hand_out-requires c = record {
       c.match_columns-failed.ensures.ends_at;
   roomy = (
     c.args.mat.now.mat.shaped.small,
-    omega (arith, c.requires.roomy.0, c.match_columns-failed.auto),
+    omega (arith, c.requires.roomy.0, c.match_columns-failed.ensures.same_work.visited.same_length),
     omega (arith, c.requires.roomy.1.1.1.1.0, c.match_columns-failed.auto, c.fill.auto),
     c.requires.roomy.1.1.1.1.1.0,
   );
 }
 
 pub returns : goal.returns
-returns c = record {
-  hall_after = λ l e f. c.hand_out.ensures l (matching c.args.mat.now.mat.size (columns c.args.mat.now.mat))
-      c.match_columns-failed.ensures.ends_at (c.match_columns-failed.ensures.same_beyond
-      ∙ filled_beyond c.args.mat.now.mat.size none c.args.row2col.now c.fill.ensures
-      ∙ ap (drop c.args.mat.now.mat.size) (sym e)) (sym f);
-  same_beyond = (
-    c.match_columns-failed.ensures.work_beyond.0,
-    c.match_columns-failed.ensures.work_beyond.1 ∙ filled_beyond c.args.mat.now.mat.size 0 c.args.cheap.now c.clear.ensures,
-    c.match_columns-failed.ensures.work_beyond.2,
-    c.match_columns-failed.ensures.work_beyond.3,
-  );
-}
+returns c =
+    let M = c.match_columns-failed.ensures in
+    let W = M.same_work in record {
+      hall_after = λ l e f. c.hand_out.ensures l (matching c.args.mat.now.mat.size (columns c.args.mat.now.mat)) M.ends_at
+          (M.same_beyond ∙ filled_beyond c.args.mat.now.mat.size none c.args.row2col.now c.fill.ensures
+          ∙ ap (drop c.args.mat.now.mat.size) (sym e)) (sym f);
+      same_work = record {
+        slices = W.slices;
+        visited = W.visited;
+        cheap = stays_then (record {
+          same_length = c.clear.auto.s;
+          beyond = filled_beyond c.args.mat.now.mat.size 0 c.args.work.now.cheap.now c.clear.ensures;
+        }) W.cheap;
+        cols = W.cols;
+        places = W.places;
+      };
+    }

@@ -4,7 +4,7 @@ use Rattle.matching.proofs.Places.{pass_more}
 use Rattle.matching.proofs.Whole.{walk_begin, walk_done}
 use Prim.Native.Nat.{◌+◌}
 use lib.ListN.{length}
-use mathlib.Core.Path.{sym, ap, ◌∙◌}
+use mathlib.Core.Path.{refl, sym, ap, ◌∙◌}
 use native.Mathlib.Omega.{arith}
 use Rattle.matching.proofs.search.search.Goals as goal
 
@@ -170,5 +170,7 @@ dfs_loop-preserved c =
 
 pub returns : goal.returns
 returns c =
-    let done = walk_done c.requires c.put.ensures (omega arith) c.dfs_loop.invariant in
-    record { search_ends = done.0; scol_unchanged = done.1 }
+    let done = walk_done c.requires c.put.ensures (omega arith) c.dfs_loop.invariant in record {
+      search_ends = done.0;
+      same_work = record { slices = refl; visited = done.1.0; cheap = done.1.1; cols = done.1.2; places = done.1.3 };
+    }

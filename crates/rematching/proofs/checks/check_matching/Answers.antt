@@ -4,15 +4,8 @@ use Rattle.sparse.proofs.Buffers.{front_filled}
 use Rattle.sparse.specs.Limits.{none}
 use Rattle.matching.proofs.Outcome.{filled_beyond}
 use Rattle.rematching.specs.Checks.{mismatched_row}
-use Rattle.rematching.proofs.Mismatches.{none_below}
 use Rattle.rematching.proofs.Refusals.{row_refused, row_passed, not_both}
 use Rattle.rematching.proofs.checks.check_matching.Goals as goal
-
-pub first_mismatched-requires : goal.first_mismatched-requires
-first_mismatched-requires c = record {
-  matching_in_bounds = c.requires.0;
-  size_in_bounds = (omega arith, none_below _ c.args.col2row.now c.fill.ensures);
-}
 
 pub returns-in-Some : goal.returns-in-Some
 unfolding mismatched_row

@@ -18,12 +18,11 @@ returns-then-search c =
     let mat = c.args.mat.now in
     let X = leaves_found _ mat.mat.shaped mat.below c.requires.editable c.requires.row_value
     c.put.ensures c.search.ensures.search_ends c.if-search.true in
-    let stack = c.search.ensures.scol_unchanged in
     record {
       ends_at = X.ends;
       row2col_unchanged = X.kept;
       same_beyond = X.matching;
-      work_beyond = (X.visited, X.cheap, stack.0, stack.1);
+      same_work = c.search.ensures.same_work;
     }
 
 pub put-requires-2 : goal.put-requires-2
@@ -37,10 +36,9 @@ returns c =
     let X = leaves_failed _ mat.mat.shaped mat.below c.requires.editable c.requires.unused
     c.requires.row_value c.put.ensures c.search.ensures.search_ends
     c.if-search.false c.put-2.ensures in
-    let stack = c.search.ensures.scol_unchanged in
     record {
       ends_at = X.ends;
       row2col_unchanged = X.kept;
       same_beyond = X.matching;
-      work_beyond = (X.visited, X.cheap, stack.0, stack.1);
+      same_work = c.search.ensures.same_work;
     }
