@@ -11,7 +11,7 @@ use Rattle.graph.proofs.Lists.{get_or_mem}
 use Rattle.sparse.specs.Limits.{max_size, max_entries}
 use Rattle.sparse.specs.Matrix.{RowsBelow}
 use Rattle.matching.specs.Parts.{col_at, Advance}
-use Rattle.matching.proofs.Arms.{Hand, ScanReady}
+use Rattle.matching.proofs.Arms.{Hand, hand_short, ScanReady}
 use Rattle.blocks.specs.Parts.{Leaves}
 use Rattle.blocks.proofs.Stack.{Goal}
 use Rattle.blocks.proofs.Walking.{Lists, Walk, Scanning, few_entered, entered_room, top_room, top_below, at_new, at_old}
@@ -49,6 +49,12 @@ pub place_below : {g : Goal} {mark : ℕ} {S₀ S : Lists} {e f depth : ℕ} {c 
 place_below {g} {S = S} {depth = depth} W l H z =
     subst (λ x. get_or S.places (depth - 1) 0 < length x) (sym (H.rows ∙ ap (λ x. g.col x) H.column))
     (at_old (at_top W l) (rw H.column at z)).rest.0
+
+-- which are no more than there may be entries
+pub place_short : {g : Goal} {mark : ℕ} {S₀ S : Lists} {e f depth : ℕ} {c : Col} {rs : List Row} → Walk g mark S₀ S e f depth → 0 < depth
+    → Hand g.col S.cols (depth - 1) c rs → get_or S.stamps c 0 ≡ mark → ((d : Col) → length (g.col d) ≤ max_entries)
+    → get_or S.places (depth - 1) 0 < max_entries
+place_short W l H z short = omega (arith, place_below W l H z, hand_short short H)
 
 -- ---- the arms
 

@@ -18,13 +18,14 @@ use Rattle.graph.proofs.Walks.{Walks, enters_listed, enters_in_front, stays_ente
 use Rattle.sparse.specs.Buffers.{zeroed}
 use Rattle.sparse.specs.Limits.{max_size}
 use Rattle.sparse.proofs.Buffers.{drop-zeroed, front_filled}
-use Rattle.blocks.specs.Walk.{last_first, walked, WalkEnds}
+use Rattle.blocks.specs.Walk.{last_first, walked, WalkEnds, SameFrom}
+use Rattle.blocks.specs.declared.walk.WalkWork.{WalkWork}
 use Rattle.blocks.specs.Cut.{second_pass, PassReady, CutReady, HoldsBlocks}
 use Rattle.blocks.specs.Form.{starts_from, block_starts}
 use Rattle.blocks.specs.Parts.{BlockEnds}
 use Rattle.blocks.proofs.Stored.{length_starts}
 use Rattle.blocks.proofs.Held.{length_last_first, stamped_few}
-use Rattle.blocks.proofs.Passes.{visit_old, Pass, pass_start, Turn, pass_more, pass_all, rule_walks}
+use Rattle.blocks.proofs.Passes.{visit_old, Pass, pass_start, pass_more, pass_all, rule_walks}
 
 -- ---- columns noted in a slice
 
@@ -212,21 +213,20 @@ progress_more {n} {kids} {order} {rest} {s} {t} {starts} {starts'} {b} {b'} {k} 
     }
 
 -- the columns listed at i and behind were walked from: b blocks are done
-pub record Seconds (n : ℕ) (col : Pattern) (m order : List Col) (v₀ cs₀ ps₀ es₀ fs₀ starts₀ v cs ps es fs starts : List ℕ) (b k i : ℕ)
-    : Type 0 where
-  pub pass : Pass n col m second_pass v₀ cs₀ ps₀ es₀ fs₀ v cs ps es fs k
+pub record Seconds (n : ℕ) (col : Pattern) (m order : List Col) (w₀ : WalkWork) (starts₀ : List ℕ) (w : WalkWork) (starts : List ℕ)
+    (b k i : ℕ) : Type 0 where
+  pub pass : Pass n col m second_pass w₀ w k
   pub listed : (c : Col) → Mem c (last_first order n) ↔ c < n
   pub order_long : n ≤ length order
   pub starts_long : n < length starts
   pub starts_length : length starts ≡ length starts₀
   pub below : i ≤ n
-  pub progress : Progress n (targets col m) order (drop (n + 1) starts₀) (last_first es k) starts b i
+  pub progress : Progress n (targets col m) order (drop (n + 1) starts₀) (last_first w.entered.now k) starts b i
 
 -- before the last listed
-pub seconds_start : {n : ℕ} {col : Pattern} {m order : List Col} {v cs ps es fs given starts : List ℕ}
-    → PassReady n col m second_pass v cs ps es fs → CutReady n order given → starts ≡ zeroed (n + 1) given
-    → length starts ≡ length given
-    → Seconds n col m order v cs ps es fs starts v cs ps es fs starts 0 0 n
+pub seconds_start : {n : ℕ} {col : Pattern} {m order : List Col} {w : WalkWork} {given starts : List ℕ}
+    → PassReady n col m second_pass w → CutReady n order given → starts ≡ zeroed (n + 1) given → length starts ≡ length given
+    → Seconds n col m order w starts w starts 0 0 n
 unfolding flatten
 seconds_start {n} {given = given} {starts = starts} R C e l = record {
   pass = pass_start R;
@@ -247,18 +247,18 @@ seconds_start {n} {given = given} {starts = starts} R C e l = record {
 }
 
 -- the next listed is a column
-pub seconds_column : {n : ℕ} {col : Pattern} {m order : List Col} {v₀ cs₀ ps₀ es₀ fs₀ starts₀ v cs ps es fs starts : List ℕ} {b k i : ℕ}
-    {c : Col} → Seconds n col m order v₀ cs₀ ps₀ es₀ fs₀ starts₀ v cs ps es fs starts b k i → 0 < i → c ≡ get_or order (i - 1) 0 → c < n
+pub seconds_column : {n : ℕ} {col : Pattern} {m order : List Col} {w₀ w : WalkWork} {starts₀ starts : List ℕ} {b k i : ℕ} {c : Col}
+    → Seconds n col m order w₀ starts₀ w starts b k i → 0 < i → c ≡ get_or order (i - 1) 0 → c < n
 seconds_column {n} {order = order} {i = i} S l e =
     subst (λ (x : ℕ). x < n) (sym e)
     ((S.listed (get_or order (i - 1) 0)).0 (last_first_has order n (i - 1) (omega (arith, l, S.below))))
 
 -- what the walk from it enters
-entered_is : {n : ℕ} {col : Pattern} {m : List Col} {mark : ℕ} {v₀ cs₀ ps₀ es₀ fs₀ v cs ps es fs v' es' fs' : List ℕ} {k r : ℕ}
-    → Pass n col m mark v₀ cs₀ ps₀ es₀ fs₀ v cs ps es fs k → (c : Col) → c < n
-    → WalkEnds n col m c mark k es fs v' es' fs' r
-    → Entered n (targets col m) c (last_first es k) (last_first es' r) × Stays c (last_first es k) (last_first es' r)
-entered_is {n} {col} {m} {es = es} {fs = fs} {es' = es'} {k = k} {r = r} P c low W = (
+entered_is : {n : ℕ} {col : Pattern} {m : List Col} {mark : ℕ} {w₀ w w' : WalkWork} {k r : ℕ}
+    → Pass n col m mark w₀ w k → (c : Col) → c < n → WalkEnds n col m c mark k w w' r
+    → Entered n (targets col m) c (last_first w.entered.now k) (last_first w'.entered.now r)
+    × Stays c (last_first w.entered.now k) (last_first w'.entered.now r)
+entered_is {n} {col} {m} {w = w} {w' = w'} {k = k} {r = r} P c low W = (
   go (elem c s) refl,
   record {
     stays = λ x i. subst (Mem x) (sym is) (stays_entered walks x i);
@@ -266,6 +266,15 @@ entered_is {n} {col} {m} {es = es} {fs = fs} {es' = es'} {k = k} {r = r} P c low
   },
 )
   where
+    es : List Col
+    es = w.entered.now
+
+    fs : List Col
+    fs = w.finished.now
+
+    es' : List Col
+    es' = w'.entered.now
+
     s : List Col
     s = last_first es k
 
@@ -279,14 +288,14 @@ entered_is {n} {col} {m} {es = es} {fs = fs} {es' = es'} {k = k} {r = r} P c low
     walks = rule_walks P c low
 
     is : last_first es' r ≡ walk.entered
-    is = ap (λ w. w.entered) W.walks
+    is = ap (λ x. x.entered) W.walks
 
     some : (a : List Col) → Mem c a → 0 < length a
     some [] i = absurd (Memᴰ.not-nil i)
     some (x ∷ a) i = omega arith
 
     go : (b : Bool) → elem c s ≡ b → Entered n kids c s (last_first es' r)
-    go true e = old (elem_mem c s e) (is ∙ ap (λ w. w.entered) (visit_old kids n c (walked es fs k) (elem_mem c s e)))
+    go true e = old (elem_mem c s e) (is ∙ ap (λ x. x.entered) (visit_old kids n c (walked es fs k) (elem_mem c s e)))
     go false e =
         let f = enters_in_front walks in
         let fresh : ¬ Mem c s = not_elem c s e in
@@ -297,67 +306,76 @@ entered_is {n} {col} {m} {es = es} {fs = fs} {es' = es'} {k = k} {r = r} P c low
         (visit_entered kids n c (record { entered = s; finished = [] }) (walked es fs k) refl ∙ sym is)
 
 -- at most n columns are walked
-turn_few : {n : ℕ} {col : Pattern} {m : List Col} {c : Col} {mark k : ℕ} {es fs v' es' fs' : List ℕ} {r : ℕ}
-    → WalkEnds n col m c mark k es fs v' es' fs' r → r ≤ n
-turn_few {es' = es'} {r = r} W = omega (arith, length_last_first es' r, stamped_few W.stamped)
+turn_few : {n : ℕ} {col : Pattern} {m : List Col} {c : Col} {mark k : ℕ} {w w' : WalkWork} {r : ℕ}
+    → WalkEnds n col m c mark k w w' r → r ≤ n
+turn_few {w' = w'} {r = r} W = omega (arith, length_last_first w'.entered.now r, stamped_few W.stamped)
 
 -- the end of a block can be stored where there is one
-pub seconds_room : {n : ℕ} {col : Pattern} {m order : List Col} {v₀ cs₀ ps₀ es₀ fs₀ starts₀ v cs ps es fs starts : List ℕ} {b k i : ℕ}
-    {c : Col} {v' es' fs' : List ℕ} {r : ℕ}
-    → Seconds n col m order v₀ cs₀ ps₀ es₀ fs₀ starts₀ v cs ps es fs starts b k i → n ≤ max_size → c < n
-    → WalkEnds n col m c second_pass k es fs v' es' fs' r → k ≢ r → (b < max_size) × (b + 1 < length starts)
-seconds_room {n} {col} {m} {es = es} {starts = starts} {b = b} {k = k} {c = c} {es' = es'} {r = r} S small low W ne =
+pub seconds_room : {n : ℕ} {col : Pattern} {m order : List Col} {w₀ w w' : WalkWork} {starts₀ starts : List ℕ} {b k i : ℕ} {c : Col} {r : ℕ}
+    → Seconds n col m order w₀ starts₀ w starts b k i → n ≤ max_size → c < n
+    → WalkEnds n col m c second_pass k w w' r → k ≢ r → (b < max_size) × (b + 1 < length starts)
+seconds_room {n} {col} {m} {w = w} {w' = w'} {starts = starts} {b = b} {k = k} {c = c} {r = r} S small low W ne =
     go (entered_is S.pass c low W).0
   where
-    go : Entered n (targets col m) c (last_first es k) (last_first es' r) → (b < max_size) × (b + 1 < length starts)
-    go (old i e) = absurd (ne (sym (length_last_first es k) ∙ ap length (sym e) ∙ length_last_first es' r))
+    s : List Col
+    s = last_first w.entered.now k
+
+    long : length s ≡ k
+    long = length_last_first w.entered.now k
+
+    long' : length (last_first w'.entered.now r) ≡ r
+    long' = length_last_first w'.entered.now r
+
+    go : Entered n (targets col m) c s (last_first w'.entered.now r) → (b < max_size) × (b + 1 < length starts)
+    go (old i e) = absurd (ne (sym long ∙ ap length (sym e) ∙ long'))
     go (new fresh a e some v) =
-        let z : r ≡ length a + k =
-        omega (arith, length_last_first es k, length_last_first es' r, ap length e, length-append a (last_first es k)) in
-        let l : b + 1 ≤ n = omega (arith, z, some, turn_few W, S.progress.few, S.progress.counted, length_last_first es k) in
+        let z : r ≡ length a + k = omega (arith, long, long', ap length e, length-append a s) in
+        let l : b + 1 ≤ n = omega (arith, z, some, turn_few W, S.progress.few, S.progress.counted, long) in
         (omega arith, omega (arith, S.starts_long))
 
 -- after the next listed column
-pub seconds_more : {n : ℕ} {col : Pattern} {m order : List Col} {v₀ cs₀ ps₀ es₀ fs₀ starts₀ v cs ps es fs starts : List ℕ} {b k i : ℕ}
-    {c : Col} {v' cs' ps' es' fs' starts' : List ℕ} {r b' : ℕ}
-    → Seconds n col m order v₀ cs₀ ps₀ es₀ fs₀ starts₀ v cs ps es fs starts b k i → 0 < i → c ≡ get_or order (i - 1) 0
-    → Turn n col m c second_pass k v cs ps es fs v' cs' ps' es' fs' r
+pub seconds_more : {n : ℕ} {col : Pattern} {m order : List Col} {w₀ w w' : WalkWork} {starts₀ starts starts' : List ℕ} {b k i : ℕ}
+    {c : Col} {r b' : ℕ}
+    → Seconds n col m order w₀ starts₀ w starts b k i → 0 < i → c ≡ get_or order (i - 1) 0
+    → WalkEnds n col m c second_pass k w w' r → SameFrom n w w'
     → BlockEnds b k r starts starts' b' → length starts' ≡ length starts
-    → Seconds n col m order v₀ cs₀ ps₀ es₀ fs₀ starts₀ v' cs' ps' es' fs' starts' b' r (i - 1)
-seconds_more {n} {col} {m} {order} {starts₀ = starts₀} {es = es} {starts = starts} {b = b} {k = k} {i = i} {c = c} {es' = es'} {r = r}
-    S some at T B l =
-    let s = last_first es k in
-    let s' = last_first es' r in
+    → Seconds n col m order w₀ starts₀ w' starts' b' r (i - 1)
+seconds_more {n} {col} {m} {order} {w = w} {w' = w'} {starts₀ = starts₀} {starts = starts} {b = b} {k = k} {i = i} {c = c} {r = r}
+    S some at E same B l =
+    let s = last_first w.entered.now k in
+    let s' = last_first w'.entered.now r in
     let t = subst (λ x. Entered n (targets col m) x s s' × Stays x s s') at
-    (entered_is S.pass c (seconds_column S some at) T.ends) in
-    let P : Progress n (targets col m) order (drop (n + 1) starts₀) (last_first es k) starts b (suc (i - 1)) =
-    subst (Progress n (targets col m) order (drop (n + 1) starts₀) (last_first es k) starts b) (omega (arith, some)) S.progress in
+    (entered_is S.pass c (seconds_column S some at) E) in
+    let P : Progress n (targets col m) order (drop (n + 1) starts₀) s starts b (suc (i - 1)) =
+    subst (Progress n (targets col m) order (drop (n + 1) starts₀) s starts b) (omega (arith, some)) S.progress in
     record {
-      pass = pass_more S.pass T;
+      pass = pass_more S.pass E same;
       listed = S.listed;
       order_long = S.order_long;
       starts_long = omega (arith, S.starts_long);
       starts_length = l ∙ S.starts_length;
       below = omega (arith, S.below);
-      progress = progress_more P t.0 t.1 (length_last_first es k) (length_last_first es' r) (turn_few T.ends) B;
+      progress = progress_more P t.0 t.1 (length_last_first w.entered.now k) (length_last_first w'.entered.now r) (turn_few E) B;
     }
 
 -- ---- the end
 
 -- after the first listed the slices hold the rule's blocks
-pub seconds_end : {n : ℕ} {col : Pattern} {m order : List Col} {v₀ cs₀ ps₀ es₀ fs₀ given starts₀ v cs ps es fs starts : List ℕ} {b k i : ℕ}
-    → Seconds n col m order v₀ cs₀ ps₀ es₀ fs₀ starts₀ v cs ps es fs starts b k i → i ≡ 0 → starts₀ ≡ zeroed (n + 1) given
-    → HoldsBlocks n (cut (targets col m) n [] (last_first order n)) es₀ given es starts b
+pub seconds_end : {n : ℕ} {col : Pattern} {m order : List Col} {w₀ w : WalkWork} {given starts₀ starts : List ℕ} {b k i : ℕ}
+    → Seconds n col m order w₀ starts₀ w starts b k i → i ≡ 0 → starts₀ ≡ zeroed (n + 1) given
+    → HoldsBlocks n (cut (targets col m) n [] (last_first order n)) w₀.entered.now given w.entered.now starts b
 unfolding cut
-seconds_end {n} {col} {m} {order} {es₀ = es₀} {given = given} {starts₀ = starts₀} {es = es} {starts = starts} {b = b} {k = k} {i = i}
-    S z e =
-    subst (λ x. HoldsBlocks n x es₀ given es starts b) whole (record {
+seconds_end {n} {col} {m} {order} {w₀} {w} {given} {starts₀} {starts} {b} {k} {i} S z e =
+    subst (λ x. HoldsBlocks n x w₀.entered.now given es starts b) whole (record {
       counted = P.counted;
-      columns = front_filled n (flatten P.done) es₀ es S.pass.entered_kept.long front S.pass.entered_kept.beyond;
+      columns = front_filled n (flatten P.done) w₀.entered.now es S.pass.room.entered front S.pass.same.entered.beyond;
       starts_are = P.starts_are ∙ rw (long, back) refl;
     })
   where
-    P : Progress n (targets col m) order (drop (n + 1) starts₀) (last_first es k) starts b i
+    es : List Col
+    es = w.entered.now
+
+    P : Progress n (targets col m) order (drop (n + 1) starts₀) (last_first w.entered.now k) starts b i
     P = S.progress
 
     whole : P.done ≡ cut (targets col m) n [] (last_first order n)
@@ -373,7 +391,7 @@ seconds_end {n} {col} {m} {order} {es₀ = es₀} {given = given} {starts₀ = s
 
     front : take n es ≡ flatten P.done
     front =
-        take_last_first es n S.pass.entered_kept.long ∙ ap (λ (x : ℕ). reverse (last_first es x)) (sym count) ∙ P.columns
+        take_last_first es n S.pass.room.entered ∙ ap (λ (x : ℕ). reverse (last_first es x)) (sym count) ∙ P.columns
 
     long : length (block_starts n P.done) ≡ n + 1
     long = length-block_starts n P.done (omega (arith, P.few, length_last_first es k, count))

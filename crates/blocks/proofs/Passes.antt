@@ -16,8 +16,9 @@ use Rattle.graph.proofs.Concatenation.{once_length}
 use Rattle.graph.proofs.Walks.{Walks, enters_listed, visits}
 use Rattle.graph.proofs.Reached.{walk_from}
 use Rattle.sparse.specs.Limits.{max_entries}
-use Rattle.matching.proofs.Stamps.{Kept, kept_start}
-use Rattle.blocks.specs.Walk.{last_first, walked, Stamped, WalkReady, WalkEnds, SameFrom}
+use Rattle.std.specs.Borrow.{MutBor}
+use Rattle.blocks.specs.Walk.{last_first, walked, Stamped, Room, WalkReady, WalkEnds, SliceFrom, SameFrom}
+use Rattle.blocks.specs.declared.walk.WalkWork.{WalkWork}
 use Rattle.blocks.specs.Cut.{first_pass, PassReady, Finished}
 use Rattle.blocks.proofs.Held.{length_last_first}
 use Rattle.blocks.proofs.Whole.{targets_below}
@@ -30,32 +31,62 @@ visit_old kids zero c w i = refl
 visit_old kids (suc n) c w i = rw (mem_elem c w.entered i)
 
 -- so where no walk is made, the slices hold what the rule says
-pub walk_not : {n : ℕ} (col : Pattern) (m : List Col) {c : Col} {mark k : ℕ} {v es : List ℕ} (fs : List ℕ) → c < n
-    → Stamped n mark v (last_first es k) → get_or v c 0 ≡ mark → WalkEnds n col m c mark k es fs v es fs k
-walk_not {n} col m {c} {mark} {k} {v} {es} fs low S e = record {
-  walks = sym (visit_old (targets col m) n c (walked es fs k) ((S.exactly c low).0 e));
+pub walk_not : {n : ℕ} (col : Pattern) (m : List Col) {c : Col} {mark k : ℕ} (w : WalkWork) → c < n
+    → Stamped n mark w.visited.now (last_first w.entered.now k) → get_or w.visited.now c 0 ≡ mark → WalkEnds n col m c mark k w w k
+walk_not {n} col m {c} {mark} {k} w low S e = record {
+  walks = sym (visit_old (targets col m) n c (walked w.entered.now w.finished.now k) ((S.exactly c low).0 e));
   stamped = S;
 }
 
 -- ---- between two walks
 
 -- k columns were walked; they and no others have the stamp, and from n on the slices are as they were
-pub record Pass (n : ℕ) (col : Pattern) (m : List Col) (mark : ℕ) (v₀ cs₀ ps₀ es₀ fs₀ v cs ps es fs : List ℕ) (k : ℕ) : Type 0 where
+pub record Pass (n : ℕ) (col : Pattern) (m : List Col) (mark : ℕ) (w₀ w : WalkWork) (k : ℕ) : Type 0 where
   pub inside : Inside n col
   pub short : (c : Col) → length (col c) ≤ max_entries
   pub matched : (r : Row) → r < n → partner m r < n
   pub matching_long : n ≤ length m
-  pub stamped : Stamped n mark v (last_first es k)
-  pub stamps_kept : Kept n v₀ v
-  pub cols_kept : Kept n cs₀ cs
-  pub places_kept : Kept n ps₀ ps
-  pub entered_kept : Kept n es₀ es
-  pub finished_kept : Kept n fs₀ fs
+  pub stamped : Stamped n mark w.visited.now (last_first w.entered.now k)
+  pub room : Room n w
+  pub same : SameFrom n w₀ w
+
+-- slices that are left alone
+pub same_slice : {n : ℕ} {s : MutBor (List ℕ)} → SliceFrom n s s
+same_slice = record { itself = refl; same_length = refl; beyond = refl }
+
+pub same_start : {n : ℕ} {w : WalkWork} → SameFrom n w w
+same_start = record { visited = same_slice; scol = same_slice; sat = same_slice; entered = same_slice; finished = same_slice }
+
+-- slices that are the same from n on, and then again
+slice_then : {n : ℕ} {a b c : MutBor (List ℕ)} → SliceFrom n a b → SliceFrom n b c → SliceFrom n a c
+slice_then S T = record {
+  itself = T.itself ∙ S.itself;
+  same_length = T.same_length ∙ S.same_length;
+  beyond = T.beyond ∙ S.beyond;
+}
+
+same_then : {n : ℕ} {w₀ w w' : WalkWork} → SameFrom n w₀ w → SameFrom n w w' → SameFrom n w₀ w'
+same_then S T = record {
+  visited = slice_then S.visited T.visited;
+  scol = slice_then S.scol T.scol;
+  sat = slice_then S.sat T.sat;
+  entered = slice_then S.entered T.entered;
+  finished = slice_then S.finished T.finished;
+}
+
+-- the room stays
+room_then : {n : ℕ} {w w' : WalkWork} → Room n w → SameFrom n w w' → Room n w'
+room_then R S = record {
+  visited = omega (arith, R.visited, S.visited.same_length);
+  scol = omega (arith, R.scol, S.scol.same_length);
+  sat = omega (arith, R.sat, S.sat.same_length);
+  entered = omega (arith, R.entered, S.entered.same_length);
+  finished = omega (arith, R.finished, S.finished.same_length);
+}
 
 -- before the first
-pub pass_start : {n : ℕ} {col : Pattern} {m : List Col} {mark : ℕ} {v cs ps es fs : List ℕ} → PassReady n col m mark v cs ps es fs
-    → Pass n col m mark v cs ps es fs v cs ps es fs 0
-pass_start {n} {v = v} {cs = cs} {ps = ps} {es = es} {fs = fs} R = record {
+pub pass_start : {n : ℕ} {col : Pattern} {m : List Col} {mark : ℕ} {w : WalkWork} → PassReady n col m mark w → Pass n col m mark w w 0
+pass_start R = record {
   inside = R.inside;
   short = R.short;
   matched = R.matched;
@@ -65,20 +96,17 @@ pass_start {n} {v = v} {cs = cs} {ps = ps} {es = es} {fs = fs} R = record {
     below = λ c i. absurd (Memᴰ.not-nil i);
     exactly = λ c l. (λ e. absurd (R.unwalked c l e), λ i. absurd (Memᴰ.not-nil i));
   };
-  stamps_kept = kept_start n v R.stamps_long;
-  cols_kept = kept_start n cs R.cols_long;
-  places_kept = kept_start n ps R.places_long;
-  entered_kept = kept_start n es R.entered_long;
-  finished_kept = kept_start n fs R.finished_long;
+  room = R.room;
+  same = same_start;
 }
 
 -- then a walk can be made from a column that has not the stamp
-pub pass_ready : {n : ℕ} {col : Pattern} {m : List Col} {mark : ℕ} {v₀ cs₀ ps₀ es₀ fs₀ v cs ps es fs : List ℕ} {k : ℕ}
-    → Pass n col m mark v₀ cs₀ ps₀ es₀ fs₀ v cs ps es fs k → (c : Col) → c < n
-    → ((c < n) × (n ≤ length v) × Stamped n mark v (last_first es k))
-    × (get_or v c 0 ≢ mark → WalkReady n col m c mark k v cs ps es fs)
+pub pass_ready : {n : ℕ} {col : Pattern} {m : List Col} {mark : ℕ} {w₀ w : WalkWork} {k : ℕ} → Pass n col m mark w₀ w k
+    → (c : Col) → c < n
+    → ((c < n) × (n ≤ length w.visited.now) × Stamped n mark w.visited.now (last_first w.entered.now k))
+    × (get_or w.visited.now c 0 ≢ mark → WalkReady n col m c mark k w)
 pass_ready P c l = (
-  (l, P.stamps_kept.long, P.stamped),
+  (l, P.room.visited, P.stamped),
   λ new. record {
     inside = P.inside;
     short = P.short;
@@ -87,58 +115,37 @@ pass_ready P c l = (
     stamped = P.stamped;
     new = new;
     matching_long = P.matching_long;
-    stamps_long = P.stamps_kept.long;
-    cols_long = P.cols_kept.long;
-    places_long = P.places_kept.long;
-    entered_long = P.entered_kept.long;
-    finished_long = P.finished_kept.long;
+    room = P.room;
   },
 )
 
--- a walk from column c was made or was not needed: r columns are walked now, and no slice has another length
-pub record Turn (n : ℕ) (col : Pattern) (m : List Col) (c : Col) (mark k : ℕ) (v cs ps es fs v' cs' ps' es' fs' : List ℕ) (r : ℕ)
-    : Type 0 where
-  pub ends : WalkEnds n col m c mark k es fs v' es' fs' r
-  pub same : SameFrom n v cs ps es fs v' cs' ps' es' fs'
-  pub stamps_length : length v' ≡ length v
-  pub cols_length : length cs' ≡ length cs
-  pub places_length : length ps' ≡ length ps
-  pub entered_length : length es' ≡ length es
-  pub finished_length : length fs' ≡ length fs
-
--- a slice that is kept, and of which then only the first n numbers change, is kept
-kept_then : {n : ℕ} {a₀ a a' : List ℕ} → Kept n a₀ a → length a' ≡ length a → drop n a' ≡ drop n a → Kept n a₀ a'
-kept_then K l e = record { long = omega (arith, K.long); same_length = l ∙ K.same_length; beyond = e ∙ K.beyond }
-
--- after it the pass goes on
-pub pass_more : {n : ℕ} {col : Pattern} {m : List Col} {mark : ℕ} {c : Col} {v₀ cs₀ ps₀ es₀ fs₀ v cs ps es fs v' cs' ps' es' fs' : List ℕ}
-    {k r : ℕ} → Pass n col m mark v₀ cs₀ ps₀ es₀ fs₀ v cs ps es fs k
-    → Turn n col m c mark k v cs ps es fs v' cs' ps' es' fs' r → Pass n col m mark v₀ cs₀ ps₀ es₀ fs₀ v' cs' ps' es' fs' r
-pass_more P T = record {
+-- after it, or where it was not needed, the pass goes on
+pub pass_more : {n : ℕ} {col : Pattern} {m : List Col} {mark : ℕ} {c : Col} {w₀ w w' : WalkWork} {k r : ℕ}
+    → Pass n col m mark w₀ w k → WalkEnds n col m c mark k w w' r → SameFrom n w w' → Pass n col m mark w₀ w' r
+pass_more P E S = record {
   inside = P.inside;
   short = P.short;
   matched = P.matched;
   matching_long = P.matching_long;
-  stamped = T.ends.stamped;
-  stamps_kept = kept_then P.stamps_kept T.stamps_length T.same.stamps_beyond;
-  cols_kept = kept_then P.cols_kept T.cols_length T.same.cols_beyond;
-  places_kept = kept_then P.places_kept T.places_length T.same.places_beyond;
-  entered_kept = kept_then P.entered_kept T.entered_length T.same.entered_beyond;
-  finished_kept = kept_then P.finished_kept T.finished_length T.same.finished_beyond;
+  stamped = E.stamped;
+  room = room_then P.room S;
+  same = same_then P.same S;
 }
 
 -- where every column below n was walked, n were
-pub pass_all : {n : ℕ} {col : Pattern} {m : List Col} {mark : ℕ} {v₀ cs₀ ps₀ es₀ fs₀ v cs ps es fs : List ℕ} {k : ℕ}
-    → Pass n col m mark v₀ cs₀ ps₀ es₀ fs₀ v cs ps es fs k → ((c : Col) → c < n → Mem c (last_first es k)) → k ≡ n
-pass_all {n} {es = es} {k = k} P all =
-    sym (length_last_first es k) ∙ once_length n (last_first es k) P.stamped.once (λ c. (P.stamped.below c, all c))
+pub pass_all : {n : ℕ} {col : Pattern} {m : List Col} {mark : ℕ} {w₀ w : WalkWork} {k : ℕ} → Pass n col m mark w₀ w k
+    → ((c : Col) → c < n → Mem c (last_first w.entered.now k)) → k ≡ n
+pass_all {n} {w = w} {k = k} P all =
+    sym (length_last_first w.entered.now k) ∙ once_length n (last_first w.entered.now k) P.stamped.once (λ c. (P.stamped.below c, all c))
 
 -- what the rule does from column c is a walk
-pub rule_walks : {n : ℕ} {col : Pattern} {m : List Col} {mark : ℕ} {v₀ cs₀ ps₀ es₀ fs₀ v cs ps es fs : List ℕ} {k : ℕ}
-    → Pass n col m mark v₀ cs₀ ps₀ es₀ fs₀ v cs ps es fs k → (c : Col) → c < n
-    → Walks (targets col m) (walked es fs k) (c ∷ []) (visit (targets col m) n c (walked es fs k))
-rule_walks {n} {col} {m} {es = es} {fs = fs} {k = k} P c low =
-    visits n n (walked es fs k) (c ∷ []) (targets_below m P.inside P.matched) (left_le n (last_first es k)) below
+pub rule_walks : {n : ℕ} {col : Pattern} {m : List Col} {mark : ℕ} {w₀ w : WalkWork} {k : ℕ} → Pass n col m mark w₀ w k
+    → (c : Col) → c < n
+    → Walks (targets col m) (walked w.entered.now w.finished.now k) (c ∷ [])
+    (visit (targets col m) n c (walked w.entered.now w.finished.now k))
+rule_walks {n} {col} {m} {w = w} {k = k} P c low =
+    visits n n (walked w.entered.now w.finished.now k) (c ∷ []) (targets_below m P.inside P.matched)
+    (left_le n (last_first w.entered.now k)) below
   where
     below : (d : Col) → Mem d (c ∷ []) → d < n
     below d i = ⊎_elim (λ z. rw z low) (λ j. absurd (Memᴰ.not-nil j)) (Memᴰ.cases_cons i)
@@ -146,13 +153,13 @@ rule_walks {n} {col} {m} {es = es} {fs = fs} {k = k} P c low =
 -- ---- the first pass
 
 -- the columns before c were walked from, and the rule leads on from there to what it makes of all
-pub record Firsts (n : ℕ) (col : Pattern) (m : List Col) (v₀ cs₀ ps₀ es₀ fs₀ v cs ps es fs : List ℕ) (k : ℕ) (c : Col) : Type 0 where
-  pub pass : Pass n col m first_pass v₀ cs₀ ps₀ es₀ fs₀ v cs ps es fs k
-  pub leads : each (visit (targets col m) n) (drop c (range n)) (walked es fs k) ≡ each (visit (targets col m) n) (range n) unwalked
+pub record Firsts (n : ℕ) (col : Pattern) (m : List Col) (w₀ w : WalkWork) (k : ℕ) (c : Col) : Type 0 where
+  pub pass : Pass n col m first_pass w₀ w k
+  pub leads : each (visit (targets col m) n) (drop c (range n)) (walked w.entered.now w.finished.now k)
+      ≡ each (visit (targets col m) n) (range n) unwalked
 
 -- before the first column
-pub firsts_start : {n : ℕ} {col : Pattern} {m : List Col} {v cs ps es fs : List ℕ} → PassReady n col m first_pass v cs ps es fs
-    → Firsts n col m v cs ps es fs v cs ps es fs 0 0
+pub firsts_start : {n : ℕ} {col : Pattern} {m : List Col} {w : WalkWork} → PassReady n col m first_pass w → Firsts n col m w w 0 0
 firsts_start R = record { pass = pass_start R; leads = refl }
 
 -- column c is the next
@@ -165,28 +172,32 @@ range_next n c l =
     ∙ ap (λ (x : ℕ). c ∷ drop x (table (λ k. k) n)) (sym e)
 
 -- after column c
-pub firsts_more : {n : ℕ} {col : Pattern} {m : List Col} {v₀ cs₀ ps₀ es₀ fs₀ v cs ps es fs v' cs' ps' es' fs' : List ℕ} {k r : ℕ} {c : Col}
-    → Firsts n col m v₀ cs₀ ps₀ es₀ fs₀ v cs ps es fs k c → c < n
-    → Turn n col m c first_pass k v cs ps es fs v' cs' ps' es' fs' r
-    → Firsts n col m v₀ cs₀ ps₀ es₀ fs₀ v' cs' ps' es' fs' r (c + 1)
-firsts_more {n} {col} {m} {es = es} {fs = fs} {k = k} {c = c} F l T =
+pub firsts_more : {n : ℕ} {col : Pattern} {m : List Col} {w₀ w w' : WalkWork} {k r : ℕ} {c : Col} → Firsts n col m w₀ w k c → c < n
+    → WalkEnds n col m c first_pass k w w' r → SameFrom n w w' → Firsts n col m w₀ w' r (c + 1)
+firsts_more {n} {col} {m} {w = w} {k = k} {c = c} F l E S =
     let go = visit (targets col m) n in
     record {
-      pass = pass_more F.pass T;
+      pass = pass_more F.pass E S;
       leads =
-          ap (λ w. each go (drop (c + 1) (range n)) w) T.ends.walks
-          ∙ sym (ap (λ cs. each go cs (walked es fs k)) (range_next n c l)) ∙ F.leads;
+          ap (λ x. each go (drop (c + 1) (range n)) x) E.walks
+          ∙ sym (ap (λ cs. each go cs (walked w.entered.now w.finished.now k)) (range_next n c l)) ∙ F.leads;
     }
 
 -- after the last the rule's columns stand in the slice
-pub firsts_end : {n : ℕ} {col : Pattern} {m : List Col} {v₀ cs₀ ps₀ es₀ fs₀ v cs ps es fs : List ℕ} {k : ℕ} {c : Col}
-    → Firsts n col m v₀ cs₀ ps₀ es₀ fs₀ v cs ps es fs k c → n ≤ c → Finished n col m v fs
+pub firsts_end : {n : ℕ} {col : Pattern} {m : List Col} {w₀ w : WalkWork} {k : ℕ} {c : Col} → Firsts n col m w₀ w k c → n ≤ c
+    → Finished n col m w.visited.now w.finished.now
 unfolding finishing range
-firsts_end {n} {col} {m} {v = v} {es = es} {fs = fs} {k = k} {c = c} F l = record {
-  finishes = ap (last_first fs) (sym (pass_all F.pass all)) ∙ ap (λ w. w.finished) whole;
+firsts_end {n} {col} {m} {w = w} {k = k} {c = c} F l = record {
+  finishes = ap (last_first fs) (sym (pass_all F.pass all)) ∙ ap (λ x. x.finished) whole;
   stamped = λ d h. (F.pass.stamped.exactly d h).1 (all d h);
 }
   where
+    es : List Col
+    es = w.entered.now
+
+    fs : List Col
+    fs = w.finished.now
+
     kids : Col → List Col
     kids = targets col m
 
@@ -200,4 +211,4 @@ firsts_end {n} {col} {m} {v = v} {es = es} {fs = fs} {k = k} {c = c} F l = recor
     walks = walk_from kids n (range n) (targets_below m F.pass.inside F.pass.matched) (λ d i. (range_is n d).0 i)
 
     all : (d : Col) → d < n → Mem d (last_first es k)
-    all d h = subst (Mem d) (sym (ap (λ w. w.entered) whole)) (enters_listed walks d ((range_is n d).1 h))
+    all d h = subst (Mem d) (sym (ap (λ x. x.entered) whole)) (enters_listed walks d ((range_is n d).1 h))

@@ -5,7 +5,8 @@ use Rattle.graph.specs.Matchings.{Row, Col, Pattern, Inside, partner}
 use Rattle.graph.specs.Blocks.{targets, finishing}
 use Rattle.sparse.specs.Buffers.{filled}
 use Rattle.sparse.specs.Limits.{max_entries}
-use Rattle.blocks.specs.Walk.{last_first}
+use Rattle.blocks.specs.Walk.{last_first, Room}
+use Rattle.blocks.specs.declared.walk.WalkWork.{WalkWork}
 use Rattle.blocks.specs.Form.{columns_of, block_starts}
 
 -- the stamp of the columns that the first pass walked
@@ -17,17 +18,13 @@ abbrev pub second_pass : ℕ
 second_pass = 2
 
 -- what a pass needs: a pattern and a matching within n, no column with the pass's stamp, and room
-pub record PassReady (n : ℕ) (col : Pattern) (m : List Col) (mark : ℕ) (stamps cs ps es fs : List ℕ) : Type 0 where
+pub record PassReady (n : ℕ) (col : Pattern) (m : List Col) (mark : ℕ) (w : WalkWork) : Type 0 where
   pub inside : Inside n col
   pub short : (c : Col) → length (col c) ≤ max_entries
   pub matched : (r : Row) → r < n → partner m r < n
-  pub unwalked : (c : Col) → c < n → get_or stamps c 0 ≢ mark
+  pub unwalked : (c : Col) → c < n → get_or w.visited.now c 0 ≢ mark
   pub matching_long : n ≤ length m
-  pub stamps_long : n ≤ length stamps
-  pub cols_long : n ≤ length cs
-  pub places_long : n ≤ length ps
-  pub entered_long : n ≤ length es
-  pub finished_long : n ≤ length fs
+  pub room : Room n w
 
 -- what the first pass leaves: the columns in the order in which the rule finishes them, and its stamp at each
 pub record Finished (n : ℕ) (col : Pattern) (m : List Col) (stamps fs : List ℕ) : Type 0 where

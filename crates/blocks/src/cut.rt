@@ -7,7 +7,7 @@ ghost use Rattle.blocks.specs.Walk.{last_first, Stamped, WalkReady, WalkEnds, Sa
 ghost use Rattle.blocks.specs.Cut.{first_pass, second_pass, PassReady, Finished, CutReady, HoldsBlocks};
 ghost use Rattle.blocks.specs.Parts.{BlockEnds};
 
-use super::walk::walk;
+use super::walk::{WalkWork, walk};
 use sparse::slices::{clear, get, put};
 use sparse::{Column, EditedMat, SparseMat};
 
@@ -23,60 +23,30 @@ fn walk_new(
     start: Column,
     mark: u32,
     at: u32,
-    visited: &mut [u32],
-    scol: &mut [u32],
-    sat: &mut [u32],
-    entered: &mut [u32],
-    finished: &mut [u32],
+    work: &mut WalkWork,
 ) -> u32
-    requires start_lt_size { (start.0 < mat.now.mat.size) × (mat.now.mat.size ≤ length visited.old)
-        × Stamped mat.now.mat.size mark visited.old (last_first entered.old at) }
-    requires walk_ready { get_or visited.old start.0 0 ≢ mark → WalkReady mat.now.mat.size (edited_columns mat.now)
-        row2col.now start.0 mark at visited.old scol.old sat.old entered.old finished.old }
-    ensures walk_ends { WalkEnds mat.now.mat.size (edited_columns mat.now) row2col.now start.0 mark at
-        entered.old finished.old visited.new entered.new finished.new result }
-    ensures same_from { SameFrom mat.now.mat.size visited.old scol.old sat.old entered.old finished.old
-        visited.new scol.new sat.new entered.new finished.new }
+    requires start_lt_size { (start.0 < mat.now.mat.size) × (mat.now.mat.size ≤ length work.old.visited.now)
+        × Stamped mat.now.mat.size mark work.old.visited.now (last_first work.old.entered.now at) }
+    requires walk_ready { get_or work.old.visited.now start.0 0 ≢ mark
+        → WalkReady mat.now.mat.size (edited_columns mat.now) row2col.now start.0 mark at work.old }
+    ensures walk_ends { WalkEnds mat.now.mat.size (edited_columns mat.now) row2col.now start.0 mark at work.old work.new result }
+    ensures same_from { SameFrom mat.now.mat.size work.old work.new }
 {
-    let stamp: u32 = get(visited, start);
-    if stamp == mark {
+    if work.stamp(start) == mark {
         return at;
     }
-    walk(
-        mat, row2col, start, mark, at, visited, scol, sat, entered, finished,
-    )
+    walk(mat, row2col, start, mark, at, work)
 }
 
 // The first pass: a walk from each column in turn that was not walked yet, so that the columns are noted as they are finished.
-pub fn finish_columns(
-    mat: &EditedMat,
-    row2col: &[u32],
-    visited: &mut [u32],
-    scol: &mut [u32],
-    sat: &mut [u32],
-    entered: &mut [u32],
-    finished: &mut [u32],
-)
-    requires { PassReady mat.now.mat.size (edited_columns mat.now) row2col.now first_pass
-        visited.old scol.old sat.old entered.old finished.old }
-    ensures finished { Finished mat.now.mat.size (edited_columns mat.now) row2col.now visited.new finished.new }
-    ensures same_from { SameFrom mat.now.mat.size visited.old scol.old sat.old entered.old finished.old
-        visited.new scol.new sat.new entered.new finished.new }
+pub fn finish_columns(mat: &EditedMat, row2col: &[u32], work: &mut WalkWork)
+    requires { PassReady mat.now.mat.size (edited_columns mat.now) row2col.now first_pass work.old }
+    ensures finished { Finished mat.now.mat.size (edited_columns mat.now) row2col.now work.new.visited.now work.new.finished.now }
+    ensures same_from { SameFrom mat.now.mat.size work.old work.new }
 {
     let mut count = 0u32;
     for c in 0..mat.mat.size {
-        count = walk_new(
-            mat,
-            row2col,
-            Column(c),
-            FIRST_PASS,
-            count,
-            visited,
-            scol,
-            sat,
-            entered,
-            finished,
-        );
+        count = walk_new(mat, row2col, Column(c), FIRST_PASS, count, work);
     }
 }
 
@@ -93,24 +63,19 @@ fn end_block(k: u32, at: u32, end: u32, blockstarts: &mut [u32]) -> u32
 }
 
 // The second pass: a walk from each column that was not walked yet, last finished first, is a block. Returns how many blocks there are.
+// What its walks finish is not needed again.
 pub fn cut_blocks(
     mat: &SparseMat,
     row2col: &[u32],
     finished: &[u32],
-    visited: &mut [u32],
-    scol: &mut [u32],
-    sat: &mut [u32],
-    entered: &mut [u32],
-    scratch: &mut [u32],
+    work: &mut WalkWork,
     blockstarts: &mut [u32],
 ) -> u32
-    requires pass_ready { PassReady mat.now.size (columns mat.now) row2col.now second_pass
-        visited.old scol.old sat.old entered.old scratch.old }
+    requires pass_ready { PassReady mat.now.size (columns mat.now) row2col.now second_pass work.old }
     requires cut_ready { CutReady mat.now.size finished.now blockstarts.old }
     ensures holds_blocks { HoldsBlocks mat.now.size (cut (targets (columns mat.now) row2col.now) mat.now.size []
-        (last_first finished.now mat.now.size)) entered.old blockstarts.old entered.new blockstarts.new result }
-    ensures same_from { SameFrom mat.now.size visited.old scol.old sat.old entered.old scratch.old
-        visited.new scol.new sat.new entered.new scratch.new }
+        (last_first finished.now mat.now.size)) work.old.entered.now blockstarts.old work.new.entered.now blockstarts.new result }
+    ensures same_from { SameFrom mat.now.size work.old work.new }
 {
     let size = mat.size;
     let mat = EditedMat {
@@ -122,18 +87,7 @@ pub fn cut_blocks(
     let mut count = 0u32;
     for i in (0..size).rev() {
         let c: Column = get(finished, i);
-        let end = walk_new(
-            &mat,
-            row2col,
-            c,
-            SECOND_PASS,
-            count,
-            visited,
-            scol,
-            sat,
-            entered,
-            scratch,
-        );
+        let end = walk_new(&mat, row2col, c, SECOND_PASS, count, work);
         blocks = end_block(blocks, count, end, blockstarts);
         count = end;
     }

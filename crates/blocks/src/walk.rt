@@ -1,5 +1,5 @@
 // The depth-first walk from one column, which both walks of the block form make, each over its own graph.
-ghost use Rattle.std.specs.Prelude.{◌<◌, length};
+ghost use Rattle.std.specs.Prelude.{◌≡◌, ◌<◌, length, get_or};
 ghost use Rattle.sparse.specs.Columns.{edited_columns};
 ghost use Rattle.sparse.specs.Limits.{max_size};
 ghost use Rattle.blocks.specs.Walk.{WalkReady, WalkEnds, SameFrom};
@@ -8,6 +8,27 @@ ghost use Rattle.blocks.specs.Parts.{Leaves};
 use matching::search::advance;
 use sparse::slices::{get, put};
 use sparse::{Column, EditedMat};
+
+// The slices that a walk writes: the stamps of the columns visited, the stack, which is two slices, the column and the place of each
+// step, and the columns entered and those finished, one after the other.
+#[derive(Drop)]
+pub struct WalkWork<'a> {
+    pub visited: &'a mut [u32],
+    pub scol: &'a mut [u32],
+    pub sat: &'a mut [u32],
+    pub entered: &'a mut [u32],
+    pub finished: &'a mut [u32],
+}
+
+impl<'a> WalkWork<'a> {
+    // The stamp of a column.
+    pub fn stamp(&self, c: Column) -> u32
+        requires { c.0 < length self.now.visited.now }
+        ensures { result ≡ get_or self.now.visited.now c.0 0 }
+    {
+        get(self.visited, c)
+    }
+}
 
 // Notes a column as finished if its step was taken off the stack. Returns how many columns are noted.
 fn leave(c: Column, depth: u32, top: u32, finished: &mut [u32], count: u32) -> u32
@@ -22,28 +43,26 @@ fn leave(c: Column, depth: u32, top: u32, finished: &mut [u32], count: u32) -> u
 }
 
 // Walks from a column that is not visited yet: what it enters and what it finishes is added to the columns walked before.
-// The stack is two slices, the column and the place of each step. Returns how many columns were walked.
+// Returns how many columns were walked.
 pub fn walk(
     mat: &EditedMat,
     row2col: &[u32],
     start: Column,
     mark: u32,
     at: u32,
-    visited: &mut [u32],
-    scol: &mut [u32],
-    sat: &mut [u32],
-    entered: &mut [u32],
-    finished: &mut [u32],
+    work: &mut WalkWork,
 ) -> u32
-    requires { WalkReady mat.now.mat.size (edited_columns mat.now) row2col.now start.0 mark at
-        visited.old scol.old sat.old entered.old finished.old }
-    ensures walk_ends { WalkEnds mat.now.mat.size (edited_columns mat.now) row2col.now start.0 mark at
-        entered.old finished.old visited.new entered.new finished.new result }
-    ensures same_from { SameFrom mat.now.mat.size visited.old scol.old sat.old entered.old finished.old
-        visited.new scol.new sat.new entered.new finished.new }
+    requires { WalkReady mat.now.mat.size (edited_columns mat.now) row2col.now start.0 mark at work.old }
+    ensures walk_ends { WalkEnds mat.now.mat.size (edited_columns mat.now) row2col.now start.0 mark at work.old work.new result }
+    ensures same_from { SameFrom mat.now.mat.size work.old work.new }
 {
-    // A copy, so that no step reads it through the reference.
+    // Names of their own for what the steps read and write, so that none goes through a reference.
     let mat = *mat;
+    let visited = &mut *work.visited;
+    let scol = &mut *work.scol;
+    let sat = &mut *work.sat;
+    let entered = &mut *work.entered;
+    let finished = &mut *work.finished;
     let mut e = at;
     let mut f = at;
     let mut depth = 1u32;

@@ -1,8 +1,10 @@
 // The order of columns, for C.
 ghost use Rattle.std.specs.Prelude.{◌≡◌};
-ghost use Rattle.ordering.specs.Order.{lent, outcome, number_of, place_of};
+ghost use Rattle.sparse.specs.Refusals.{number_of, place_of};
+ghost use Rattle.ordering.specs.Order.{lent, outcome};
 
-use ordering::OrderAnswer;
+use ordering::OrderBuffers;
+use sparse::refusal::number_and_place;
 
 // ordering::order_simple.
 #[unsafe(no_mangle)]
@@ -29,13 +31,16 @@ pub extern "C" fn dechvorim_order_simple(
         (lent score2head.old prev.old next.old marks.old new2orig.old
         orig2new.old)).after }
 {
-    let answer = ordering::order_simple(
-        size, starts, rows, score2head, prev, next, marks, new2orig, orig2new,
-    );
-    if let OrderAnswer::Refused(r) = answer {
-        *place = r.place;
-        return r.number;
-    }
-    *place = 0;
-    0
+    let mut buffers = OrderBuffers {
+        score2head,
+        prev,
+        next,
+        marks,
+        new2orig,
+        orig2new,
+    };
+    let answer = ordering::order_simple(size, starts, rows, &mut buffers);
+    let (number, at) = number_and_place(answer);
+    *place = at;
+    number
 }

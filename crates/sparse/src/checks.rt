@@ -1,11 +1,12 @@
 // The checks of a pattern, in the table's order. Each equals its row of the table, for any slices that the checks before it let through.
-ghost use Rattle.std.specs.Prelude.{◌≡◌, ℕ, ◌+◌, ◌-◌, ◌<◌, ◌≤◌, true, false, List, length, unwrap_or, IfOk, IfSome};
+ghost use Rattle.std.specs.Prelude.{◌≡◌, ℕ, ◌+◌, ◌-◌, ◌<◌, ◌≤◌, Bool, true, false, List, length, unwrap_or, IfOk, IfSome};
 ghost use Rattle.graph.specs.Counting.{count, some};
 ghost use Rattle.sparse.specs.Limits.{max_size, max_entries};
 ghost use Rattle.sparse.specs.Matrix.{RowsBelow};
 ghost use Rattle.sparse.specs.Refusals.{first_refusal, Buffer, one_short, early, checked};
 ghost use Rattle.sparse.specs.Refusals.{too_large, misshapen, row_outside, repeated_row, empty_column};
-ghost use Rattle.sparse.specs.Refusals.{falls_at, outside_at, repeats_at, empty_at};
+ghost use Rattle.sparse.specs.Refusals.{falls_at, repeats_at, refused_at};
+ghost use Rattle.sparse.specs.declared.refusal.Refusal.{Refusal as Reason};
 ghost use Rattle.sparse.specs.Parts.{ZeroBelow, Unmarked, FirstAgain, Tallied, Counted, marked, found};
 ghost use Rattle.sparse.specs.Parts.{row_falls_at, falls_into, opens_falling, enters_falling};
 
@@ -19,17 +20,59 @@ pub fn check_size(size: u32, rows: &[u32]) -> Result<(), Refusal>
     Refusal::TooLarge.when((MAX_SIZE < size) | ((MAX_ENTRIES as usize) < rows.len()))
 }
 
-// Whether some column starts after the next one does. Like its two fellows below it goes through without a branch: nearly every
-// input passes, and a place is looked for only where there is one.
+// Whether a test takes one of the numbers below n. It goes through without a branch: nearly every input passes, and a place is looked
+// for only where there is one.
+fn some_below<F: Fn(u32) -> bool>(n: u32, takes: F) -> bool
+    requires { (i : ℕ) → i < n → F.pre takes i }
+    ensures { (p : ℕ → Bool) → ((i : ℕ) (b : Bool) → i < n → F.post takes i b → b ≡ p i) → result ≡ some p n }
+{
+    let mut found = false;
+    for i in 0..n {
+        found |= takes(i);
+    }
+    found
+}
+
+// The first number below n that a test takes.
+fn first_below<F: Fn(u32) -> bool>(n: u32, takes: F) -> Option<u32>
+    requires { (i : ℕ) → i < n → F.pre takes i }
+    ensures found { (p : ℕ → Bool) → ((i : ℕ) (b : Bool) → i < n → F.post takes i b → b ≡ p i) → result ≡ found p n }
+    ensures below { IfSome result (λ k. k < n) }
+{
+    for i in 0..n {
+        if takes(i) {
+            return Some(i);
+        }
+    }
+    None
+}
+
+// Refused at the first number below n that a test takes, if there is one.
+fn refused_below<F: Fn(u32) -> bool + Copy, R: Fn(u32) -> Refusal>(
+    n: u32,
+    takes: F,
+    refusal: R,
+) -> Result<(), Refusal>
+    requires takes { (i : ℕ) → i < n → F.pre takes i }
+    requires refusal { (i : ℕ) → i < n → R.pre refusal i }
+    ensures { (p : ℕ → Bool) (at : ℕ → Reason) → ((i : ℕ) (b : Bool) → i < n → F.post takes i b → b ≡ p i)
+        → ((i : ℕ) (r : Reason) → i < n → R.post refusal i r → r ≡ at i) → result ≡ refused_at at p n }
+{
+    if !some_below(n, takes) {
+        return Ok(());
+    }
+    match first_below(n, takes) {
+        Some(k) => Err(refusal(k)),
+        None => Ok(()),
+    }
+}
+
+// Whether some column starts after the next one does.
 fn any_falls(size: u32, starts: &[u32]) -> bool
     requires { (length starts.now ≡ size + 1) × (size ≤ max_size) }
     ensures { result ≡ some (falls_at starts.now) size }
 {
-    let mut found = false;
-    for c in 0..size as usize {
-        found |= starts[c + 1] < starts[c];
-    }
-    found
+    some_below(size, |c| starts[c as usize + 1] < starts[c as usize])
 }
 
 // Refusal 2.
@@ -45,41 +88,16 @@ pub fn check_shape(size: u32, starts: &[u32], rows: &[u32]) -> Result<(), Refusa
     Refusal::Misshapen.when(from | any_falls(size, starts) | to)
 }
 
-fn any_outside(size: u32, rows: &[u32]) -> bool
-    ensures { result ≡ some (outside_at size rows.now) (length rows.now) }
-{
-    let mut found = false;
-    for row in rows {
-        found |= size <= *row;
-    }
-    found
-}
-
-// The first row that is not below n.
-fn first_outside(size: u32, rows: &[u32]) -> Option<u32>
-    requires { length rows.now ≤ max_entries }
-    ensures { result ≡ found (outside_at size rows.now) (length rows.now) }
-{
-    for k in 0..rows.len() {
-        if size <= rows[k] {
-            return Some(k as u32);
-        }
-    }
-    None
-}
-
 // Refusal 3.
 pub fn check_rows(size: u32, rows: &[u32]) -> Result<(), Refusal>
     requires { length rows.now ≤ max_entries }
     ensures { result ≡ row_outside size rows.now }
 {
-    if !any_outside(size, rows) {
-        return Ok(());
-    }
-    match first_outside(size, rows) {
-        Some(k) => Err(Refusal::RowOutside(k)),
-        None => Ok(()),
-    }
+    refused_below(
+        rows.len() as u32,
+        |k| size <= rows[k as usize],
+        |k| Refusal::RowOutside(k),
+    )
 }
 
 // Refusals 1, 2, 5 and 3, which leave every buffer as it is; the caller has tested its buffers. What they let through is a matrix.
@@ -274,40 +292,14 @@ pub fn check_repeats(mat: &SquareMat, marks: &mut [u32]) -> Result<(), Refusal>
     }
 }
 
-fn any_empty(size: u32, starts: &[u32]) -> bool
-    requires { (length starts.now ≡ size + 1) × (size ≤ max_size) }
-    ensures { result ≡ some (empty_at starts.now) size }
-{
-    let mut found = false;
-    for c in 0..size as usize {
-        found |= starts[c + 1] <= starts[c];
-    }
-    found
-}
-
-// The first column without rows.
-fn first_empty(size: u32, starts: &[u32]) -> Option<u32>
-    requires { (length starts.now ≡ size + 1) × (size ≤ max_size) }
-    ensures { result ≡ found (empty_at starts.now) size }
-{
-    for c in 0..size as usize {
-        if starts[c + 1] <= starts[c] {
-            return Some(c as u32);
-        }
-    }
-    None
-}
-
 // Refusal 8.
 pub fn check_columns(size: u32, starts: &[u32]) -> Result<(), Refusal>
     requires { (length starts.now ≡ size + 1) × (size ≤ max_size) }
     ensures { result ≡ empty_column size starts.now }
 {
-    if !any_empty(size, starts) {
-        return Ok(());
-    }
-    match first_empty(size, starts) {
-        Some(c) => Err(Refusal::EmptyColumn(Column(c))),
-        None => Ok(()),
-    }
+    refused_below(
+        size,
+        |c| starts[c as usize + 1] <= starts[c as usize],
+        |c| Refusal::EmptyColumn(Column(c)),
+    )
 }

@@ -1,3 +1,4 @@
+pub mod Work
 pub mod Room
 pub mod Outcome
 pub mod Samples

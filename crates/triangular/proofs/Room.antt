@@ -8,6 +8,7 @@ use lib.Dec.{ltb}
 use lib.ListN.{length}
 use Rattle.sparse.specs.Refusals.{Buffer, one_short, Roomy}
 use Rattle.std.proofs.Math.Bool.{or_assoc}
+use Rattle.triangular.specs.Parts.{SameWork}
 use Rattle.triangular.specs.Outcome.{Work, Outputs, form_need, starts_need, entries_need, work_buffers, output_buffers}
 
 -- the test of two lists of buffers
@@ -42,10 +43,17 @@ pub output_test : (size : ℕ) (o : Outputs)
 unfolding one_short
 output_test size o = grind (arith, or_assoc)
 
--- slices that keep their lengths keep their room
-pub work_kept : (size entries : ℕ) (w w' : Work) → length w'.visited ≡ length w.visited → length w'.cheap ≡ length w.cheap
-    → length w'.finished ≡ length w.finished → length w'.col2row ≡ length w.col2row
-    → length w'.backstarts ≡ length w.backstarts → length w'.backrows ≡ length w.backrows
-    → length w'.scol ≡ length w.scol → length w'.sat ≡ length w.sat → Roomy (work_buffers size entries w)
+-- slices that stay keep their room
+pub work_kept : {n k : ℕ} (size entries : ℕ) (w w' : Work) → SameWork n k w w' → Roomy (work_buffers size entries w)
     → Roomy (work_buffers size entries w')
-work_kept size entries w w' ev ec ef er eb ek es et h = rw (ev, ec, ef, er, eb, ek, es, et) h
+work_kept size entries w w' S h =
+    rw (
+      S.visited.same_length,
+      S.cheap.same_length,
+      S.finished.same_length,
+      S.col2row.same_length,
+      S.backstarts.same_length,
+      S.backrows.same_length,
+      S.cols.same_length,
+      S.places.same_length,
+    ) h

@@ -15,15 +15,12 @@ use Rattle.sparse.specs.Buffers.{zeroed, filled}
 use Rattle.sparse.specs.Limits.{max_size, max_entries}
 use Rattle.sparse.specs.Matrix.{column, Shaped}
 use Rattle.sparse.proofs.Buffers.{drop-zeroed, drop-filled, filled_at}
-use Rattle.blocks.specs.Walk.{last_first, SameFrom}
+use Rattle.blocks.specs.Walk.{last_first}
 use Rattle.blocks.specs.Reverse.{entries, Reversible, ReverseRoom, Reversed}
 use Rattle.blocks.specs.Cut.{second_pass, PassReady, Finished, HoldsBlocks}
-use Rattle.triangular.specs.Outcome.{Work, work, starts_need, entries_need, cleared}
-use Rattle.triangular.specs.Parts.{SameWork}
+use Rattle.triangular.specs.Outcome.{starts_need, entries_need}
 use Rattle.blocks.proofs.Backward.{back_shaped}
 use Rattle.blocks.proofs.Joined.{targets_within, finished_unwalked, back_pattern, cut_is_blocks}
-
--- ---- before the first pass
 
 -- ---- before the reversed graph
 
@@ -101,35 +98,3 @@ matched_holds {n} {col} {m} {starts = starts} {rows = rows} {order = order} {es�
       columns = B.columns ∙ ap (λ (t : List ℕ). flatten (blocks n (targets col m)) ++ t) (rw long same);
       starts_are = B.starts_are;
     }
-
--- what was cleared, walked, inverted and reversed is as it was beyond the needs
-pub matched_same : {n : ℕ} {col : Pattern} {m inv : List ℕ} {v₀ c₀ f₀ i₀ b₀ k₀ s₀ t₀ e₀ v₁ v₂ f₂ s₂ t₂ e₂ b k v c s t e : List ℕ}
-    → v₁ ≡ zeroed n v₀ → SameFrom n v₁ s₀ t₀ e₀ f₀ v₂ s₂ t₂ e₂ f₂ → inv ≡ filled (inverse n m) i₀
-    → Reversed n col m inv b₀ k₀ b k → SameFrom n v₂ s₂ t₂ e₂ c₀ v s t e c
-    → SameWork n (entries n col) (work v₀ c₀ f₀ i₀ b₀ k₀ s₀ t₀) (work v c f₂ inv b k s t)
-matched_same {n} {col} {m} {v₀ = v₀} {i₀ = i₀} e F f T S = record {
-  visited_beyond = S.stamps_beyond ∙ F.stamps_beyond ∙ ap (drop n) e ∙ drop-zeroed n v₀;
-  cheap_beyond = S.finished_beyond;
-  finished_beyond = F.finished_beyond;
-  col2row_beyond = ap (drop n) f ∙ ap (λ (k : ℕ). drop k (filled (inverse n m) i₀)) (sym (length-inverse n m)) ∙ drop-filled
-      (inverse n m) i₀
-      ∙ ap (λ (k : ℕ). drop k i₀) (length-inverse n m);
-  backstarts_beyond = T.starts_beyond;
-  backrows_beyond = T.rows_beyond;
-  cols_beyond = S.cols_beyond ∙ F.cols_beyond;
-  places_beyond = S.places_beyond ∙ F.places_beyond;
-}
-
--- workspaces that are the same beyond the needs are cleared to the same
-pub same_cleared : (size k : ℕ) (w w' : Work) → SameWork size k w w' → cleared size k w' ≡ cleared size k w
-same_cleared size k w w' S =
-    rw (
-      S.visited_beyond,
-      S.cheap_beyond,
-      S.finished_beyond,
-      S.col2row_beyond,
-      S.backstarts_beyond,
-      S.backrows_beyond,
-      S.cols_beyond,
-      S.places_beyond,
-    )

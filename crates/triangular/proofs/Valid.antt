@@ -16,17 +16,13 @@ use Rattle.sparse.specs.Refusals.{passed, first_refusal, early, Roomy}
 use Rattle.sparse.specs.declared.mat.SquareMat.{SquareMat}
 use Rattle.sparse.proofs.Matrix.{inside, column_beyond}
 use Rattle.matching.specs.Matching.{matching}
-use Rattle.matching.specs.Parts.{SameBeyond}
 use Rattle.matching.proofs.Ready.{column_short}
 use Rattle.blocks.specs.Cut.{HoldsBlocks}
 use Rattle.triangular.specs.Outcome.{Work, work, Outputs, outputs, Lent, lent, buffers, cleared}
 use Rattle.triangular.specs.Outcome.{BlockAnswer, handed_out, formed, outcome, ended, Given, Means}
-use Rattle.triangular.specs.Parts.{SameWork}
-use Rattle.blocks.specs.Reverse.{entries, Reversible}
+use Rattle.blocks.specs.Reverse.{Reversible}
 use Rattle.std.specs.Prelude.{Ok}
-use Rattle.blocks.proofs.Entries.{entries_plain}
 use Rattle.triangular.proofs.Outcome.{Handed, handed_agree, hand_accepted, decides, formed_outcome, outcome_means}
-use Rattle.triangular.proofs.UnderMatching.{same_cleared}
 
 -- ---- what is given
 
@@ -71,27 +67,6 @@ pub valid_accepted : (size : ℕ) (starts : List ℕ) (rows : List Row) (l : Len
 valid_accepted size starts rows l w row2col hall cols ends k G H B =
     hand_accepted size (column starts rows) w l.outer (matching size (column starts rows)) row2col hall cols ends k
     (inside G.valid.shaped G.valid.below) (decides G) H B
-
--- the matching changes four slices of the workspace, below the need
-pub matching_same : (n k : ℕ) (v c f r b q s t v' c' s' t' : List ℕ) → SameBeyond n v v' → SameBeyond n c c' → SameBeyond n s s'
-    → SameBeyond n t t' → SameWork n k (work v c f r b q s t) (work v' c' f r b q s' t')
-matching_same n k v c f r b q s t v' c' s' t' ev ec es et = record {
-  visited_beyond = ev;
-  cheap_beyond = ec;
-  finished_beyond = refl;
-  col2row_beyond = refl;
-  backstarts_beyond = refl;
-  backrows_beyond = refl;
-  cols_beyond = es;
-  places_beyond = et;
-}
-
--- after it the passes change the rest
-pub accepted_cleared : {size : ℕ} {starts : List ℕ} {rows : List Row} (w u x : Work) → Shaped size starts rows
-    → SameWork size (length rows) w u → SameWork size (entries size (column starts rows)) u x
-    → cleared size (length rows) x ≡ cleared size (length rows) w
-accepted_cleared {size} {starts} {rows} w u x S A B =
-    same_cleared size (length rows) u x (subst (λ k. SameWork size k u x) (entries_plain S) B) ∙ same_cleared size (length rows) w u A
 
 -- ---- the entry
 

@@ -10,6 +10,8 @@ use Rattle.sparse.specs.declared.refusal.Refusal.{Refusal}
 use Rattle.sparse.specs.declared.refusal.Refusal.TheVariants.{Unmatchable}
 use Rattle.matching.specs.Matching.{Verdict, accepted, refused, matching, Matchable}
 use Rattle.matching.specs.Outcome.{marks_of, HallMarks}
+use Rattle.triangular.specs.declared.form.FormWork.{FormWork}
+use Rattle.triangular.specs.declared.form.FormOutputs.{FormOutputs}
 use Rattle.blocks.specs.Form.{columns_of, block_starts, StoredForm}
 
 -- ---- the lent buffers
@@ -49,6 +51,39 @@ abbrev pub outputs : List Col → List ℕ → List Col → List ℕ → Outputs
 outputs row2col hall blockcols blockstarts =
     record { row2col = row2col; hall = hall; blockcols = blockcols; blockstarts = blockstarts }
 
+-- what the slices of the two structs hold
+abbrev pub held_work : FormWork → Work
+held_work w =
+    work w.visited.now w.cheap.now w.finished.now w.col2row.now w.backstarts.now w.backrows.now w.scol.now w.sat.now
+
+abbrev pub held_outputs : FormOutputs → Outputs
+held_outputs o = outputs o.row2col.now o.hall.now o.blockcols.now o.blockstarts.now
+
+-- the same slices, holding other numbers
+abbrev pub holding_work : FormWork → Work → FormWork
+holding_work w h = record w {
+  visited = record w.visited { now = h.visited };
+  cheap = record w.cheap { now = h.cheap };
+  finished = record w.finished { now = h.finished };
+  col2row = record w.col2row { now = h.col2row };
+  backstarts = record w.backstarts { now = h.backstarts };
+  backrows = record w.backrows { now = h.backrows };
+  scol = record w.scol { now = h.scol };
+  sat = record w.sat { now = h.sat };
+}
+
+abbrev pub holding_outputs : FormOutputs → Outputs → FormOutputs
+holding_outputs o h = record o {
+  row2col = record o.row2col { now = h.row2col };
+  hall = record o.hall { now = h.hall };
+  blockcols = record o.blockcols { now = h.blockcols };
+  blockstarts = record o.blockstarts { now = h.blockstarts };
+}
+
+-- the outputs with other blocks
+abbrev pub with_blocks : Outputs → List Col → List ℕ → Outputs
+with_blocks o cols starts = outputs o.row2col o.hall cols starts
+
 -- all that is lent
 pub record Lent : Type 0 where
   pub inner : Work
@@ -56,6 +91,9 @@ pub record Lent : Type 0 where
 
 abbrev pub lent : Work → Outputs → Lent
 lent inner outer = record { inner = inner; outer = outer }
+
+abbrev pub held : FormWork → FormOutputs → Lent
+held w o = lent (held_work w) (held_outputs o)
 
 -- how much is needed of the slices that go by columns, of those that hold starts, and of the one that holds the reversed rows:
 -- so the workspace is 5 n + 1 numbers and as many as there are entries

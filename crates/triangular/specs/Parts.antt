@@ -1,14 +1,15 @@
--- What only private functions cite: what the blocks under a matching leave of the workspace.
-use Rattle.std.specs.Prelude.{ℕ, ◌+◌, ◌≡◌, drop}
+-- What the parts of the block form say to one another: what they leave of the workspace.
+use Rattle.std.specs.Prelude.{ℕ, ◌+◌}
+use Rattle.matching.specs.Work.{Stays}
 use Rattle.triangular.specs.Outcome.{Work}
 
--- beyond what a block form of n columns and k entries needs, workspace and stack are as they were
+-- workspace and stack are as long as they were, and the same beyond what a block form of n columns and k entries needs
 pub record SameWork (n k : ℕ) (before after : Work) : Type 0 where
-  pub visited_beyond : drop n after.visited ≡ drop n before.visited
-  pub cheap_beyond : drop n after.cheap ≡ drop n before.cheap
-  pub finished_beyond : drop n after.finished ≡ drop n before.finished
-  pub col2row_beyond : drop n after.col2row ≡ drop n before.col2row
-  pub backstarts_beyond : drop (n + 1) after.backstarts ≡ drop (n + 1) before.backstarts
-  pub backrows_beyond : drop k after.backrows ≡ drop k before.backrows
-  pub cols_beyond : drop n after.scol ≡ drop n before.scol
-  pub places_beyond : drop n after.sat ≡ drop n before.sat
+  pub visited : Stays n before.visited after.visited
+  pub cheap : Stays n before.cheap after.cheap
+  pub finished : Stays n before.finished after.finished
+  pub col2row : Stays n before.col2row after.col2row
+  pub backstarts : Stays (n + 1) before.backstarts after.backstarts
+  pub backrows : Stays k before.backrows after.backrows
+  pub cols : Stays n before.scol after.scol
+  pub places : Stays n before.sat after.sat

@@ -5,11 +5,13 @@ ghost use Rattle.sparse.specs.Columns.{columns};
 ghost use Rattle.sparse.specs.Parts.{ZeroBelow};
 ghost use Rattle.sparse.specs.Refusals.{Roomy};
 ghost use Rattle.matching.specs.Matching.{matching};
-ghost use Rattle.triangular.specs.Outcome.{Work, work, outputs, lent, buffers, cleared};
+ghost use Rattle.triangular.specs.Outcome.{Work, lent, buffers, held_work, holding_work, held_outputs, holding_outputs, held};
 ghost use Rattle.triangular.specs.Outcome.{handed_out, formed, outcome, ended, Means};
+ghost use Rattle.triangular.specs.Parts.{SameWork};
 
-use super::form::{clear_blocks, clear_work, entries_need, lacks_room};
+use super::form::{FormOutputs, FormWork, clear_blocks, clear_work, entries_need, lacks_room};
 use super::matched::block_matched;
+use matching::SearchWork;
 use matching::diagonal::match_valid;
 use sparse::checks::{check_early, check_repeats};
 use sparse::slices::clear;
@@ -18,100 +20,54 @@ use sparse::{EditedMat, Refusal, SquareMat};
 // The block form of a valid matrix, over stamps that are zero. What the workspace holds afterwards is the caller's to clear.
 pub fn block_valid(
     mat: &SquareMat,
-    visited: &mut [u32],
-    cheap: &mut [u32],
-    finished: &mut [u32],
-    col2row: &mut [u32],
-    backstarts: &mut [u32],
-    backrows: &mut [u32],
-    scol: &mut [u32],
-    sat: &mut [u32],
-    row2col: &mut [u32],
-    hall: &mut [u32],
-    blockcols: &mut [u32],
-    blockstarts: &mut [u32],
+    work: &mut FormWork,
+    outputs: &mut FormOutputs,
 ) -> Result<u32, Refusal>
     requires once { (c : ℕ) → c < mat.now.mat.size → Once (columns mat.now.mat c) }
-    requires roomy { Roomy (buffers mat.now.mat.size (length mat.now.mat.rows.now) (lent (work visited.old cheap.old finished.old
-        col2row.old backstarts.old backrows.old scol.old sat.old) (outputs row2col.old hall.old blockcols.old blockstarts.old))) }
-    requires zero_below { ZeroBelow mat.now.mat.size visited.old }
-    ensures blockstarts_after { (w : Work) → ended result (lent w (outputs row2col.new hall.new blockcols.new
-        blockstarts.new)) ≡ handed_out mat.now.mat.size (columns mat.now.mat) w (outputs row2col.old
-        hall.old blockcols.old blockstarts.old) (matching mat.now.mat.size (columns mat.now.mat)) }
-    ensures sat_unchanged { cleared mat.now.mat.size (length mat.now.mat.rows.now) (work visited.new cheap.new finished.new
-        col2row.new backstarts.new backrows.new scol.new sat.new)
-        ≡ cleared mat.now.mat.size (length mat.now.mat.rows.now) (work visited.old cheap.old finished.old
-        col2row.old backstarts.old backrows.old scol.old sat.old) }
+    requires roomy { Roomy (buffers mat.now.mat.size (length mat.now.mat.rows.now) (held work.old outputs.old)) }
+    requires zero_below { ZeroBelow mat.now.mat.size work.old.visited.now }
+    ensures outputs_after { (w : Work) → ended result (lent w (held_outputs outputs.new))
+        ≡ handed_out mat.now.mat.size (columns mat.now.mat) w (held_outputs outputs.old)
+        (matching mat.now.mat.size (columns mat.now.mat)) }
+    ensures same_work { SameWork mat.now.mat.size (length mat.now.mat.rows.now) (held_work work.old) (held_work work.new) }
+    ensures same_slices { (work.new ≡ holding_work work.old (held_work work.new))
+        × (outputs.new ≡ holding_outputs outputs.old (held_outputs outputs.new)) }
 {
-    let matched = match_valid(mat, visited, cheap, scol, sat, row2col, hall);
+    let mut slices = SearchWork {
+        visited: &mut *work.visited,
+        cheap: &mut *work.cheap,
+        scol: &mut *work.scol,
+        sat: &mut *work.sat,
+    };
+    let matched = match_valid(mat, &mut slices, outputs.row2col, outputs.hall);
     let Ok(()) = matched else {
-        clear_blocks(mat.mat.size, blockcols, blockstarts);
+        clear_blocks(mat.mat.size, outputs);
         return matched.map(|()| 0);
     };
     let unedited = EditedMat {
         mat: mat.mat,
         edit: None,
     };
-    let count = block_matched(
-        &unedited,
-        row2col,
-        visited,
-        cheap,
-        finished,
-        col2row,
-        backstarts,
-        backrows,
-        scol,
-        sat,
-        blockcols,
-        blockstarts,
-    );
+    let count = block_matched(&unedited, work, outputs);
     Ok(count)
 }
 
 // The block form of a matrix that refusals 1, 2, 5 and 3 let through. What the workspace holds afterwards is the caller's to clear.
 pub fn block_tested(
     mat: &SquareMat,
-    visited: &mut [u32],
-    cheap: &mut [u32],
-    finished: &mut [u32],
-    col2row: &mut [u32],
-    backstarts: &mut [u32],
-    backrows: &mut [u32],
-    scol: &mut [u32],
-    sat: &mut [u32],
-    row2col: &mut [u32],
-    hall: &mut [u32],
-    blockcols: &mut [u32],
-    blockstarts: &mut [u32],
+    work: &mut FormWork,
+    outputs: &mut FormOutputs,
 ) -> Result<u32, Refusal>
-    requires { Roomy (buffers mat.now.mat.size (length mat.now.mat.rows.now) (lent (work visited.old cheap.old finished.old
-        col2row.old backstarts.old backrows.old scol.old sat.old) (outputs row2col.old hall.old blockcols.old blockstarts.old))) }
-    ensures blockstarts_after { (w : Work) → ended result (lent w (outputs row2col.new hall.new blockcols.new
-        blockstarts.new)) ≡ formed mat.now.mat.size mat.now.mat.starts.now mat.now.mat.rows.now w (outputs row2col.old
-        hall.old blockcols.old blockstarts.old) }
-    ensures sat_unchanged { cleared mat.now.mat.size (length mat.now.mat.rows.now) (work visited.new cheap.new finished.new
-        col2row.new backstarts.new backrows.new scol.new sat.new)
-        ≡ cleared mat.now.mat.size (length mat.now.mat.rows.now) (work visited.old cheap.old finished.old
-        col2row.old backstarts.old backrows.old scol.old sat.old) }
+    requires { Roomy (buffers mat.now.mat.size (length mat.now.mat.rows.now) (held work.old outputs.old)) }
+    ensures outputs_after { (w : Work) → ended result (lent w (held_outputs outputs.new))
+        ≡ formed mat.now.mat.size mat.now.mat.starts.now mat.now.mat.rows.now w (held_outputs outputs.old) }
+    ensures same_work { SameWork mat.now.mat.size (length mat.now.mat.rows.now) (held_work work.old) (held_work work.new) }
+    ensures same_slices { (work.new ≡ holding_work work.old (held_work work.new))
+        × (outputs.new ≡ holding_outputs outputs.old (held_outputs outputs.new)) }
 {
-    clear(visited, mat.mat.size);
-    check_repeats(mat, visited)?;
-    block_valid(
-        mat,
-        visited,
-        cheap,
-        finished,
-        col2row,
-        backstarts,
-        backrows,
-        scol,
-        sat,
-        row2col,
-        hall,
-        blockcols,
-        blockstarts,
-    )
+    clear(work.visited, mat.mat.size);
+    check_repeats(mat, work.visited)?;
+    block_valid(mat, work, outputs)
 }
 
 // The block triangular form of a matrix: a matching, and the blocks under it one after the other; or the first refusal of the table,
@@ -120,75 +76,18 @@ pub fn find_block_diag_form(
     size: u32,
     starts: &[u32],
     rows: &[u32],
-    visited: &mut [u32],
-    cheap: &mut [u32],
-    finished: &mut [u32],
-    col2row: &mut [u32],
-    backstarts: &mut [u32],
-    backrows: &mut [u32],
-    scol: &mut [u32],
-    sat: &mut [u32],
-    row2col: &mut [u32],
-    hall: &mut [u32],
-    blockcols: &mut [u32],
-    blockstarts: &mut [u32],
+    work: &mut FormWork,
+    outputs: &mut FormOutputs,
 ) -> Result<u32, Refusal>
-    ensures outcome { ended result (lent (work visited.new cheap.new finished.new col2row.new
-        backstarts.new backrows.new scol.new sat.new) (outputs row2col.new
-        hall.new blockcols.new blockstarts.new))
-        ≡ outcome size starts.now rows.now (lent (work visited.old cheap.old
-        finished.old col2row.old backstarts.old backrows.old scol.old
-        sat.old) (outputs row2col.old hall.old blockcols.old blockstarts.old)) }
-    ensures meaning { Means size starts.now rows.now (lent (work visited.old cheap.old
-        finished.old col2row.old backstarts.old backrows.old scol.old
-        sat.old) (outputs row2col.old hall.old blockcols.old blockstarts.old))
-        (lent (work visited.new cheap.new finished.new col2row.new
-        backstarts.new backrows.new scol.new sat.new) (outputs row2col.new
-        hall.new blockcols.new blockstarts.new)) result }
+    ensures outcome { ended result (held work.new outputs.new) ≡ outcome size starts.now rows.now (held work.old outputs.old) }
+    ensures meaning { Means size starts.now rows.now (held work.old outputs.old) (held work.new outputs.new) result }
+    ensures same_slices { (work.new ≡ holding_work work.old (held_work work.new))
+        × (outputs.new ≡ holding_outputs outputs.old (held_outputs outputs.new)) }
 {
-    let few = backrows.len() < entries_need(rows.len());
-    let short = lacks_room(
-        size,
-        few,
-        visited,
-        cheap,
-        finished,
-        col2row,
-        backstarts,
-        scol,
-        sat,
-        row2col,
-        hall,
-        blockcols,
-        blockstarts,
-    );
+    let few = work.backrows.len() < entries_need(rows.len());
+    let short = lacks_room(size, few, work, outputs);
     let mat = check_early(size, starts, rows, short)?;
-    let answer = block_tested(
-        &mat,
-        visited,
-        cheap,
-        finished,
-        col2row,
-        backstarts,
-        backrows,
-        scol,
-        sat,
-        row2col,
-        hall,
-        blockcols,
-        blockstarts,
-    );
-    clear_work(
-        size,
-        rows.len() as u32,
-        visited,
-        cheap,
-        finished,
-        col2row,
-        backstarts,
-        backrows,
-        scol,
-        sat,
-    );
+    let answer = block_tested(&mat, work, outputs);
+    clear_work(size, rows.len() as u32, work);
     answer
 }

@@ -1,12 +1,35 @@
-// The block triangular form: its needs, and the parts of its entry that look at every buffer.
-ghost use Rattle.std.specs.Prelude.{◌≡◌, List, ℕ, ◌+◌, ◌≤◌, ltb, length};
+// The block triangular form: what it is lent, its needs, and the parts of its entry that look at every buffer.
+ghost use Rattle.std.specs.Prelude.{◌≡◌, ℕ, ◌+◌, ◌≤◌, ltb, length};
 ghost use Rattle.sparse.specs.Buffers.{zeroed};
 ghost use Rattle.sparse.specs.Limits.{max_size};
 ghost use Rattle.sparse.specs.Refusals.{one_short, Roomy};
-ghost use Rattle.triangular.specs.Outcome.{work, outputs, lent, form_need, starts_need, entries_need, work_buffers, output_buffers};
-ghost use Rattle.triangular.specs.Outcome.{buffers, cleared};
+ghost use Rattle.triangular.specs.Outcome.{form_need, starts_need, entries_need, work_buffers, output_buffers, buffers};
+ghost use Rattle.triangular.specs.Outcome.{held_work, holding_work, held_outputs, holding_outputs, held, with_blocks, cleared};
 
 use sparse::slices::clear;
+
+// The workspace and the stack: by column the stamp of its last visit and its cheap place, the columns as they finish, the row of
+// each column, the starts and rows of the reversed graph; and the stack's columns and places.
+#[derive(Drop)]
+pub struct FormWork<'a> {
+    pub visited: &'a mut [u32],
+    pub cheap: &'a mut [u32],
+    pub finished: &'a mut [u32],
+    pub col2row: &'a mut [u32],
+    pub backstarts: &'a mut [u32],
+    pub backrows: &'a mut [u32],
+    pub scol: &'a mut [u32],
+    pub sat: &'a mut [u32],
+}
+
+// The outputs: the column of each row, the Hall marks, the blocks' columns one after the other, and where each block starts.
+#[derive(Drop)]
+pub struct FormOutputs<'a> {
+    pub row2col: &'a mut [u32],
+    pub hall: &'a mut [u32],
+    pub blockcols: &'a mut [u32],
+    pub blockstarts: &'a mut [u32],
+}
 
 // How many numbers are needed of each slice that goes by columns.
 pub fn form_need(size: u32) -> u32
@@ -30,114 +53,64 @@ pub fn entries_need(entries: usize) -> usize
 }
 
 // Whether a slice of the workspace or of the stack is shorter than its need; the caller has tested the reversed graph's rows.
-fn lacks_work(
-    size: u32,
-    few: bool,
-    visited: &[u32],
-    cheap: &[u32],
-    finished: &[u32],
-    col2row: &[u32],
-    backstarts: &[u32],
-    scol: &[u32],
-    sat: &[u32],
-) -> bool
-    ensures { (backrows : List ℕ) (entries : ℕ) → few ≡ ltb (length backrows) (entries_need entries)
-        → result ≡ one_short (work_buffers size entries (work visited.now cheap.now finished.now
-        col2row.now backstarts.now backrows scol.now sat.now)) }
+fn lacks_work(size: u32, few: bool, work: &FormWork) -> bool
+    ensures { (entries : ℕ) → few ≡ ltb (length work.now.backrows.now) (entries_need entries)
+        → result ≡ one_short (work_buffers size entries (held_work work.now)) }
 {
     let need = form_need(size) as usize;
-    (visited.len() < need)
-        | (cheap.len() < need)
-        | (finished.len() < need)
-        | (col2row.len() < need)
-        | (backstarts.len() < starts_need(size))
+    (work.visited.len() < need)
+        | (work.cheap.len() < need)
+        | (work.finished.len() < need)
+        | (work.col2row.len() < need)
+        | (work.backstarts.len() < starts_need(size))
         | few
-        | (scol.len() < need)
-        | (sat.len() < need)
+        | (work.scol.len() < need)
+        | (work.sat.len() < need)
 }
 
 // Whether an output is shorter than its need.
-fn lacks_outputs(
-    size: u32,
-    row2col: &[u32],
-    hall: &[u32],
-    blockcols: &[u32],
-    blockstarts: &[u32],
-) -> bool
-    ensures { result ≡ one_short (output_buffers size (outputs row2col.now hall.now blockcols.now
-        blockstarts.now)) }
+fn lacks_outputs(size: u32, outputs: &FormOutputs) -> bool
+    ensures { result ≡ one_short (output_buffers size (held_outputs outputs.now)) }
 {
     let need = form_need(size) as usize;
-    (row2col.len() < need)
-        | (hall.len() < need)
-        | (blockcols.len() < need)
-        | (blockstarts.len() < starts_need(size))
+    (outputs.row2col.len() < need)
+        | (outputs.hall.len() < need)
+        | (outputs.blockcols.len() < need)
+        | (outputs.blockstarts.len() < starts_need(size))
 }
 
 // Whether a buffer is shorter than its need; the caller has tested the reversed graph's rows.
-pub fn lacks_room(
-    size: u32,
-    few: bool,
-    visited: &[u32],
-    cheap: &[u32],
-    finished: &[u32],
-    col2row: &[u32],
-    backstarts: &[u32],
-    scol: &[u32],
-    sat: &[u32],
-    row2col: &[u32],
-    hall: &[u32],
-    blockcols: &[u32],
-    blockstarts: &[u32],
-) -> bool
-    ensures { (backrows : List ℕ) (entries : ℕ) → few ≡ ltb (length backrows) (entries_need entries)
-        → result ≡ one_short (buffers size entries (lent (work visited.now cheap.now finished.now
-        col2row.now backstarts.now backrows scol.now sat.now)
-        (outputs row2col.now hall.now blockcols.now blockstarts.now))) }
+pub fn lacks_room(size: u32, few: bool, work: &FormWork, outputs: &FormOutputs) -> bool
+    ensures { (entries : ℕ) → few ≡ ltb (length work.now.backrows.now) (entries_need entries)
+        → result ≡ one_short (buffers size entries (held work.now outputs.now)) }
 {
-    lacks_work(
-        size, few, visited, cheap, finished, col2row, backstarts, scol, sat,
-    ) | lacks_outputs(size, row2col, hall, blockcols, blockstarts)
+    lacks_work(size, few, work) | lacks_outputs(size, outputs)
 }
 
 // The workspace and the stack become zero over their needs.
-pub fn clear_work(
-    size: u32,
-    entries: u32,
-    visited: &mut [u32],
-    cheap: &mut [u32],
-    finished: &mut [u32],
-    col2row: &mut [u32],
-    backstarts: &mut [u32],
-    backrows: &mut [u32],
-    scol: &mut [u32],
-    sat: &mut [u32],
-)
+pub fn clear_work(size: u32, entries: u32, work: &mut FormWork)
     requires size_le_max_size { size ≤ max_size }
-    requires roomy { Roomy (work_buffers size entries (work visited.old cheap.old finished.old col2row.old
-        backstarts.old backrows.old scol.old sat.old)) }
-    ensures { work visited.new cheap.new finished.new col2row.new
-        backstarts.new backrows.new scol.new sat.new
-        ≡ cleared size entries (work visited.old cheap.old finished.old
-        col2row.old backstarts.old backrows.old scol.old sat.old) }
+    requires roomy { Roomy (work_buffers size entries (held_work work.old)) }
+    ensures { work.new ≡ holding_work work.old (cleared size entries (held_work work.old)) }
 {
     let need = form_need(size);
-    clear(visited, need);
-    clear(cheap, need);
-    clear(finished, need);
-    clear(col2row, need);
-    clear(backstarts, starts_need(size) as u32);
-    clear(backrows, entries_need(entries as usize) as u32);
-    clear(scol, need);
-    clear(sat, need);
+    clear(work.visited, need);
+    clear(work.cheap, need);
+    clear(work.finished, need);
+    clear(work.col2row, need);
+    clear(work.backstarts, starts_need(size) as u32);
+    clear(work.backrows, entries_need(entries as usize) as u32);
+    clear(work.scol, need);
+    clear(work.sat, need);
 }
 
 // The blocks' columns and starts become zero over their needs.
-pub fn clear_blocks(size: u32, blockcols: &mut [u32], blockstarts: &mut [u32])
-    requires { (size ≤ max_size) × (form_need size ≤ length blockcols.old) × (starts_need size ≤ length blockstarts.old) }
-    ensures blockcols_after { blockcols.new ≡ zeroed (form_need size) blockcols.old }
-    ensures blockstarts_after { blockstarts.new ≡ zeroed (starts_need size) blockstarts.old }
+pub fn clear_blocks(size: u32, outputs: &mut FormOutputs)
+    requires { (size ≤ max_size) × (form_need size ≤ length outputs.old.blockcols.now)
+        × (starts_need size ≤ length outputs.old.blockstarts.now) }
+    ensures { outputs.new ≡ holding_outputs outputs.old (with_blocks (held_outputs outputs.old)
+        (zeroed (form_need size) outputs.old.blockcols.now) (zeroed (starts_need size) outputs.old.blockstarts.now)) }
 {
-    clear(blockcols, form_need(size));
-    clear(blockstarts, starts_need(size) as u32);
+    clear(outputs.blockcols, form_need(size));
+    clear(outputs.blockstarts, starts_need(size) as u32);
 }

@@ -6,3 +6,4 @@ pub mod form;
 pub mod matched;
 
 pub use entry::find_block_diag_form;
+pub use form::{FormOutputs, FormWork};

@@ -8,9 +8,11 @@ ghost use Rattle.sparse.specs.Refusals.{Roomy};
 ghost use Rattle.blocks.specs.Walk.{last_first, SameFrom};
 ghost use Rattle.blocks.specs.Reverse.{entries, Reversible};
 ghost use Rattle.blocks.specs.Cut.{second_pass, PassReady, CutReady, HoldsBlocks};
-ghost use Rattle.triangular.specs.Outcome.{work, form_need, starts_need, work_buffers};
+ghost use Rattle.triangular.specs.Outcome.{form_need, starts_need, work_buffers};
+ghost use Rattle.triangular.specs.Outcome.{held_work, holding_work, held_outputs, holding_outputs, with_blocks};
 ghost use Rattle.triangular.specs.Parts.{SameWork};
 
+use super::form::{FormOutputs, FormWork};
 use blocks::cut::{cut_blocks, finish_columns};
 use blocks::reverse::reverse_graph;
 use sparse::slices::{clear, get, invert};
@@ -63,50 +65,46 @@ fn cut_matched(
 
 // The blocks of a matrix under a perfect matching. Returns how many there are. What the workspace holds afterwards is the caller's to
 // clear.
-pub fn block_matched(
-    mat: &EditedMat,
-    row2col: &[u32],
-    visited: &mut [u32],
-    cheap: &mut [u32],
-    finished: &mut [u32],
-    col2row: &mut [u32],
-    backstarts: &mut [u32],
-    backrows: &mut [u32],
-    scol: &mut [u32],
-    sat: &mut [u32],
-    blockcols: &mut [u32],
-    blockstarts: &mut [u32],
-) -> u32
-    requires reversible { Reversible mat.now.mat.size (edited_columns mat.now) row2col.now
+pub fn block_matched(mat: &EditedMat, work: &mut FormWork, outputs: &mut FormOutputs) -> u32
+    requires reversible { Reversible mat.now.mat.size (edited_columns mat.now) outputs.old.row2col.now
         × (entries mat.now.mat.size (edited_columns mat.now) ≤ max_entries) }
     requires roomy { Roomy (work_buffers mat.now.mat.size (entries mat.now.mat.size (edited_columns mat.now))
-        (work visited.old cheap.old finished.old col2row.old backstarts.old backrows.old scol.old sat.old)) }
-    requires size_in_bounds { (form_need mat.now.mat.size ≤ length blockcols.old)
-        × (starts_need mat.now.mat.size ≤ length blockstarts.old) }
+        (held_work work.old)) }
+    requires size_in_bounds { (form_need mat.now.mat.size ≤ length outputs.old.blockcols.now)
+        × (starts_need mat.now.mat.size ≤ length outputs.old.blockstarts.now) }
     ensures holds_blocks { HoldsBlocks mat.now.mat.size (blocks mat.now.mat.size (targets (edited_columns mat.now)
-        row2col.now)) blockcols.old blockstarts.old blockcols.new blockstarts.new result }
-    ensures same_work { SameWork mat.now.mat.size (entries mat.now.mat.size (edited_columns mat.now))
-        (work visited.old cheap.old finished.old col2row.old backstarts.old
-        backrows.old scol.old sat.old)
-        (work visited.new cheap.new finished.new col2row.new backstarts.new
-        backrows.new scol.new sat.new) }
+        outputs.old.row2col.now)) outputs.old.blockcols.now outputs.old.blockstarts.now outputs.new.blockcols.now
+        outputs.new.blockstarts.now result }
+    ensures same_outputs { outputs.new ≡ holding_outputs outputs.old (with_blocks (held_outputs outputs.old)
+        outputs.new.blockcols.now outputs.new.blockstarts.now) }
+    ensures same_work { SameWork mat.now.mat.size (entries mat.now.mat.size (edited_columns mat.now)) (held_work work.old)
+        (held_work work.new) }
+    ensures same_slices { work.new ≡ holding_work work.old (held_work work.new) }
 {
     let size = mat.mat.size;
-    clear(visited, size);
-    finish_columns(mat, row2col, visited, scol, sat, blockcols, finished);
-    invert::<OriginalRow, Column>(size, row2col, col2row);
-    reverse_graph(mat, row2col, col2row, backstarts, backrows);
+    clear(work.visited, size);
+    finish_columns(
+        mat,
+        outputs.row2col,
+        work.visited,
+        work.scol,
+        work.sat,
+        outputs.blockcols,
+        work.finished,
+    );
+    invert::<OriginalRow, Column>(size, outputs.row2col, work.col2row);
+    reverse_graph(mat, outputs.row2col, work.col2row, work.backstarts, work.backrows);
     cut_matched(
         size,
-        backstarts,
-        backrows,
-        row2col,
-        finished,
-        visited,
-        scol,
-        sat,
-        blockcols,
-        cheap,
-        blockstarts,
+        work.backstarts,
+        work.backrows,
+        outputs.row2col,
+        work.finished,
+        work.visited,
+        work.scol,
+        work.sat,
+        outputs.blockcols,
+        work.cheap,
+        outputs.blockstarts,
     )
 }

@@ -20,15 +20,8 @@ end_block-blocks-requires c =
 
 pub loop-i-preserved : goal.loop-i-preserved
 loop-i-preserved c =
-    seconds_more c.loop-i.invariant c.loop-i-test.true c.get-c.ensures (record {
-      ends = c.walk_new-end.ensures.walk_ends;
-      same = c.walk_new-end.ensures.same_from;
-      stamps_length = c.walk_new-end.auto.visited;
-      cols_length = c.walk_new-end.auto.scol;
-      places_length = c.walk_new-end.auto.sat;
-      entered_length = c.walk_new-end.auto.entered;
-      finished_length = c.walk_new-end.auto.finished;
-    }) c.end_block-blocks.ensures c.end_block-blocks.auto.blockstarts
+    seconds_more c.loop-i.invariant c.loop-i-test.true c.get-c.ensures c.walk_new-end.ensures.walk_ends
+    c.walk_new-end.ensures.same_from c.end_block-blocks.ensures c.end_block-blocks.auto.blockstarts
 
 pub returns-clause-holds_blocks : goal.returns-clause-holds_blocks
 returns-clause-holds_blocks c =

@@ -5,6 +5,5 @@ use Rattle.blocks.proofs.cut.cut_blocks.Given as goal
 
 abbrev pub invariant-loop-i : goal.invariant-loop-i
 invariant-loop-i l =
-    Seconds l.mat.mat.size (edited_columns l.mat) l.row2col l.finished
-    l.initial.visited l.initial.scol l.initial.sat l.initial.entered l.initial.scratch l.initial.blockstarts
-    l.visited l.scol l.sat l.entered l.scratch l.blockstarts l.blocks l.count l.i
+    Seconds l.mat.mat.size (edited_columns l.mat) l.row2col l.finished l.initial.work l.initial.blockstarts
+    l.work l.blockstarts l.blocks l.count l.i

@@ -7,15 +7,7 @@ loop-c-init c =
 
 pub loop-c-preserved : goal.loop-c-preserved
 loop-c-preserved c =
-    firsts_more c.loop-c.invariant c.loop-c-test.true (record {
-      ends = c.walk_new-count.ensures.walk_ends;
-      same = c.walk_new-count.ensures.same_from;
-      stamps_length = c.walk_new-count.auto.visited;
-      cols_length = c.walk_new-count.auto.scol;
-      places_length = c.walk_new-count.auto.sat;
-      entered_length = c.walk_new-count.auto.entered;
-      finished_length = c.walk_new-count.auto.finished;
-    })
+    firsts_more c.loop-c.invariant c.loop-c-test.true c.walk_new-count.ensures.walk_ends c.walk_new-count.ensures.same_from
 
 pub returns-clause-finished : goal.returns-clause-finished
 returns-clause-finished c =

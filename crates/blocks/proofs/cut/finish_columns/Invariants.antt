@@ -5,6 +5,4 @@ use Rattle.blocks.proofs.cut.finish_columns.Given as goal
 
 abbrev pub invariant-loop-c : goal.invariant-loop-c
 invariant-loop-c l =
-    Firsts l.mat.mat.size (edited_columns l.mat) l.row2col
-    l.initial.visited l.initial.scol l.initial.sat l.initial.entered l.initial.finished
-    l.visited l.scol l.sat l.entered l.finished l.count l.c
+    Firsts l.mat.mat.size (edited_columns l.mat) l.row2col l.initial.work l.work l.count l.c

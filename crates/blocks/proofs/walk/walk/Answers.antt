@@ -1,4 +1,4 @@
-use Rattle.blocks.proofs.Arms.{depth_below, column_below, enter_room, place_below, arm_enter, arm_again, arm_on, finish_room, scan_ready}
+use Rattle.blocks.proofs.Arms.{depth_below, column_below, enter_room, place_short, arm_enter, arm_again, arm_on, finish_room, scan_ready}
 use Rattle.blocks.proofs.Arms.{fall_enter, fall_again}
 use Rattle.blocks.proofs.Whole.{walk_begin, walk_done}
 use Rattle.matching.proofs.Arms.{in_hand, hand_short}
@@ -92,12 +92,11 @@ get-place-requires c =
 
 pub overflow_add-next : goal.overflow_add-next
 overflow_add-next c =
-    let hand = in_hand (edited_columns c.args.mat.now) c.get-c.ensures c.col_rows-col.ensures in
     omega (
       arith,
       c.get-place.ensures,
-      place_below c.loop-depth.invariant c.loop-depth-test.true hand (sym c.get-stamp.ensures ∙ c.if-stamp-mark.false),
-      hand_short c.requires.short hand,
+      place_short c.loop-depth.invariant c.loop-depth-test.true (in_hand _ c.get-c.ensures c.col_rows-col.ensures)
+          (sym c.get-stamp.ensures ∙ c.if-stamp-mark.false) c.requires.short,
     )
 
 pub advance-depth-requires-else-stamp-mark : goal.advance-depth-requires-else-stamp-mark

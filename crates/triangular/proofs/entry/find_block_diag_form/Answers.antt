@@ -3,61 +3,51 @@ use Rattle.std.proofs.Common.{ℕ, Err, sym, ap, ◌∙◌, length, ltb}
 use Rattle.std.proofs.lemmas.Result.{err_from_is_err_and}
 use Rattle.sparse.specs.Refusals.{checked}
 use Rattle.sparse.proofs.Early.{early_passed}
-use Rattle.triangular.specs.Outcome.{BlockAnswer, work, outputs, lent, buffers, ended, work_buffers, output_buffers}
+use Rattle.triangular.specs.Outcome.{BlockAnswer, held_work, held_outputs, held, ended, work_buffers, output_buffers}
 use Rattle.triangular.proofs.Room.{work_kept, roomy_split}
 use Rattle.triangular.proofs.Outcome.{early_outcome, outcome_means}
 use Rattle.triangular.proofs.Valid.{tested_exit}
+use Rattle.triangular.proofs.Work.{same_cleared, work_slices}
 use Rattle.triangular.proofs.entry.find_block_diag_form.Goals as goal
 
 pub returns-in_err-mat : goal.returns-in_err-mat
 returns-in_err-mat c =
-    let l = lent (work c.args.visited.now c.args.cheap.now c.args.finished.now c.args.col2row.now c.args.backstarts.now
-    c.args.backrows.now c.args.scol.now c.args.sat.now)
-    (outputs c.args.row2col.now c.args.hall.now c.args.blockcols.now c.args.blockstarts.now) in
-    let few = ap (λ (t : ℕ). ltb (length c.args.backrows.now) t) c.entries_need.ensures in
-    let found = c.check_early.ensures.value (buffers c.args.size (length c.args.rows.now) l)
-    (c.lacks_room-short.ensures c.args.backrows.now (length c.args.rows.now) few) in
+    let l = held c.args.work.now c.args.outputs.now in
+    let few = ap (λ (t : ℕ). ltb (length c.args.work.now.backrows.now) t) c.entries_need.ensures in
+    let found = c.check_early.ensures.value _ (c.lacks_room-short.ensures (length c.args.rows.now) few) in
     let p = err_from_is_err_and c.from_residual.result c.from_residual.ensures.1 in
     let e = ap (λ (a : BlockAnswer). ended a l) (p.1 ∙ ap (λ r. Err r) p.2)
     ∙ early_outcome _ _ _ l _ (sym found ∙ ap checked c.in_err-mat.was) in
-    record { outcome = e; meaning = outcome_means _ _ _ l _ _ e }
+    record { outcome = e; meaning = outcome_means _ _ _ l _ _ e; same_slices = search rules }
 
 pub block_tested-answer-requires : goal.block_tested-answer-requires
 block_tested-answer-requires c =
-    let l = lent (work c.args.visited.now c.args.cheap.now c.args.finished.now c.args.col2row.now c.args.backstarts.now
-    c.args.backrows.now c.args.scol.now c.args.sat.now)
-    (outputs c.args.row2col.now c.args.hall.now c.args.blockcols.now c.args.blockstarts.now) in
-    let few = ap (λ (t : ℕ). ltb (length c.args.backrows.now) t) c.entries_need.ensures in
-    let found = c.check_early.ensures.value (buffers c.args.size (length c.args.rows.now) l)
-    (c.lacks_room-short.ensures c.args.backrows.now (length c.args.rows.now) few) in
+    let few = ap (λ (t : ℕ). ltb (length c.args.work.now.backrows.now) t) c.entries_need.ensures in
+    let found = c.check_early.ensures.value _ (c.lacks_room-short.ensures (length c.args.rows.now) few) in
     let mat = c.in_ok-mat.ensures in
     rw (mat.size, mat.rows) (early_passed _ _ _ _ (sym found ∙ ap checked c.in_ok-mat.was)).room
 
 pub clear_work-requires-clause-roomy : goal.clear_work-requires-clause-roomy
 clear_work-requires-clause-roomy c =
-    let w = work c.args.visited.now c.args.cheap.now c.args.finished.now c.args.col2row.now c.args.backstarts.now c.args.backrows.now
-    c.args.scol.now c.args.sat.now in
-    let o = outputs c.args.row2col.now c.args.hall.now c.args.blockcols.now c.args.blockstarts.now in
-    let few = ap (λ (t : ℕ). ltb (length c.args.backrows.now) t) c.entries_need.ensures in
-    let found = c.check_early.ensures.value (buffers c.args.size (length c.args.rows.now) (lent w o))
-    (c.lacks_room-short.ensures c.args.backrows.now (length c.args.rows.now) few) in
+    let few = ap (λ (t : ℕ). ltb (length c.args.work.now.backrows.now) t) c.entries_need.ensures in
+    let found = c.check_early.ensures.value _ (c.lacks_room-short.ensures (length c.args.rows.now) few) in
     let room = (early_passed _ _ _ _ (sym found ∙ ap checked c.in_ok-mat.was)).room in
-    let kept = c.block_tested-answer.auto in
-    work_kept c.args.size (length c.args.rows.now) w (work _ _ _ _ _ _ _ _) kept.visited kept.cheap kept.finished kept.col2row
-    kept.backstarts kept.backrows kept.scol kept.sat
-    (roomy_split (work_buffers c.args.size (length c.args.rows.now) w) (output_buffers c.args.size o) room).0
+    let size = c.args.size in
+    let entries = length c.args.rows.now in
+    let before = held_work c.args.work.now in
+    work_kept size entries before (held_work c.block_tested-answer.new.work) c.block_tested-answer.ensures.same_work
+    (roomy_split (work_buffers size entries before) (output_buffers size (held_outputs c.args.outputs.now)) room).0
 
 pub returns : goal.returns
 returns c =
-    let l = lent (work c.args.visited.now c.args.cheap.now c.args.finished.now c.args.col2row.now c.args.backstarts.now
-    c.args.backrows.now c.args.scol.now c.args.sat.now)
-    (outputs c.args.row2col.now c.args.hall.now c.args.blockcols.now c.args.blockstarts.now) in
-    let few = ap (λ (t : ℕ). ltb (length c.args.backrows.now) t) c.entries_need.ensures in
-    let found = c.check_early.ensures.value (buffers c.args.size (length c.args.rows.now) l)
-    (c.lacks_room-short.ensures c.args.backrows.now (length c.args.rows.now) few) in
+    let l = held c.args.work.now c.args.outputs.now in
+    let few = ap (λ (t : ℕ). ltb (length c.args.work.now.backrows.now) t) c.entries_need.ensures in
+    let found = c.check_early.ensures.value _ (c.lacks_room-short.ensures (length c.args.rows.now) few) in
     let mat = c.in_ok-mat.ensures in
-    let same = rw (mat.size, mat.rows) at c.block_tested-answer.ensures.sat_unchanged in
-    let gives = rw (mat.size, mat.starts, mat.rows) at c.block_tested-answer.ensures.blockstarts_after in
-    let e = tested_exit _ _ _ l (work _ _ _ _ _ _ _ _) (outputs _ _ _ _) _ (sym found ∙ ap checked c.in_ok-mat.was)
-    (c.clear_work.ensures ∙ same) gives in
-    record { outcome = e.0; meaning = e.1 }
+    let tested = c.block_tested-answer in
+    let same = rw (mat.size, mat.rows) at tested.ensures.same_work in
+    let gives = rw (mat.size, mat.starts, mat.rows) at tested.ensures.outputs_after in
+    let zero = ap held_work c.clear_work.ensures ∙ same_cleared c.args.size (length c.args.rows.now) l.inner (held_work tested.new.work) same in
+    let e = tested_exit _ _ _ l (held_work c.clear_work.new.work) (held_outputs tested.new.outputs) _
+    (sym found ∙ ap checked c.in_ok-mat.was) zero gives in
+    record { outcome = e.0; meaning = e.1; same_slices = search rules }
