@@ -13,17 +13,18 @@ use Rattle.graph.specs.Blocks.{targets, blocks}
 use Rattle.graph.proofs.Lists.{table_ext}
 use Rattle.graph.proofs.Matchings.{perfect_agree}
 use Rattle.graph.proofs.Permutations.{permutes}
-use Rattle.sparse.specs.Buffers.{zeroed, filled}
+use Rattle.sparse.specs.Buffers.{zeroed}
 use Rattle.sparse.specs.Matrix.{column_or}
 use Rattle.sparse.specs.Columns.{columns}
 use Rattle.sparse.specs.Refusals.{Roomy}
 use Rattle.sparse.specs.declared.Column.{Column}
 use Rattle.sparse.specs.declared.mat.Edit.{Edit}
 use Rattle.sparse.specs.declared.mat.SquareMat.{SquareMat}
-use Rattle.sparse.proofs.Buffers.{drop-zeroed, front_filled}
+use Rattle.sparse.proofs.Buffers.{front_filled}
 use Rattle.matching.specs.Matching.{Verdict, accepted, refused}
 use Rattle.matching.specs.Outcome.{marks_of}
 use Rattle.matching.specs.Parts.{EndsAt, SameBeyond}
+use Rattle.matching.specs.Work.{Stays}
 use Rattle.matching.proofs.Ready.{short_or}
 use Rattle.blocks.specs.Cut.{HoldsBlocks}
 use Rattle.blocks.specs.Reverse.{entries, Reversible}
@@ -31,13 +32,13 @@ use Rattle.rematching.specs.Checks.{Editable}
 use Rattle.rematching.specs.Rematching.{rematching}
 use Rattle.std.specs.Prelude.{Option, Some, None, Ok, is_some, IsSome}
 use Rattle.std.proofs.lemmas.Option.{none-some}
-use Rattle.triangular.specs.Outcome.{Work, work, Outputs, outputs, Lent, lent, cleared, form_need, starts_need, work_buffers}
+use Rattle.triangular.specs.Outcome.{Work, Outputs, outputs, Lent, lent, work_buffers}
 use Rattle.triangular.specs.Outcome.{output_buffers, buffers, BlockAnswer, ended, unmatchable}
 use Rattle.triangular.specs.Parts.{SameWork}
 use Rattle.triangular.proofs.Room.{work_kept, roomy_split}
 use Rattle.triangular.proofs.Outcome.{Handed, handed_agree, hand_accepted}
-use Rattle.triangular.proofs.UnderMatching.{same_cleared}
-use Rattle.edit.specs.Outcome.{edit_entries, handed_out, Given}
+use Rattle.triangular.proofs.Work.{same_then}
+use Rattle.edit.specs.Outcome.{edit_entries, refused_outputs, handed_out, Given}
 use Rattle.edit.proofs.Outcome.{given_inside, decides}
 use Rattle.edit.proofs.EditedEntries.{replacement_few, entries_roomy, edited_once}
 
@@ -67,39 +68,59 @@ ends_handed {r = None} v o (refused c seen) E f long same z = absurd E
 ends_handed {r = Some d} v o verdict E f long same z = absurd (none-some d (sym f))
 
 -- where it failed, the old matching stays, and the stamps tell the marks
-ends_refused : (size : ℕ) {m hall cols ends : List ℕ} (failed : Column) (col : Pattern) (w : Work) (v : List ℕ) (o : Outputs)
-    (verdict : Verdict) → EndsAt size v m (Some failed) verdict → m ≡ o.row2col
-    → hall ≡ filled (table (λ d. bit (eqb (get_or v d 0) (failed.0 + 1))) size) o.hall → cols ≡ zeroed (form_need size) o.blockcols
-    → ends ≡ zeroed (starts_need size) o.blockstarts
-    → ended (unmatchable failed.0) (lent w (outputs m hall cols ends)) ≡ handed_out size col w o verdict
+ends_refused : (size : ℕ) {m : List ℕ} (failed : Column) (col : Pattern) (w : Work) (v : List ℕ) (o : Outputs) (verdict : Verdict)
+    → EndsAt size v m (Some failed) verdict → m ≡ o.row2col
+    → ended (unmatchable failed.0) (lent w (refused_outputs size (table (λ d. bit (eqb (get_or v d 0) (failed.0 + 1))) size)
+    (record o { row2col = m }))) ≡ handed_out size col w o verdict
 unfolding marks_of
-ends_refused size failed col w v o (accepted p) E em eh ec es = absurd E
-ends_refused size failed col w v o (refused c seen) E em eh ec es =
+ends_refused size failed col w v o (accepted p) E em = absurd E
+ends_refused size failed col w v o (refused c seen) E em =
     let marks : table (λ d. bit (eqb (get_or v d 0) (failed.0 + 1))) size ≡ table (λ d. bit (elem d seen)) size =
     table_ext _ _ size (λ d j. ap bit (ap (λ (x : ℕ). eqb (get_or v d 0) (x + 1)) E.0 ∙ E.2 d j)) in
-    rw (em, eh, ec, es, marks, E.0)
+    rw (em, marks, E.0)
 
 -- ---- the workspace
 
--- a slice cleared before it is changed is as it was beyond the need
-pub cleared_beyond : (n : ℕ) (u v w : List ℕ) → v ≡ zeroed n u → SameBeyond n v w → SameBeyond n u w
-cleared_beyond n u v w z e = e ∙ ap (drop n) z ∙ drop-zeroed n u
+-- what is not changed stays
+pub unchanged : {n : ℕ} {xs : List ℕ} → Stays n xs xs
+unchanged = record { same_length = refl; beyond = refl }
 
--- what is the same beyond k entries is the same beyond more
-pub same_more : {n k : ℕ} {w w' : Work} (j : ℕ) → k ≤ j → SameWork n k w w' → SameWork n j w w'
-same_more {k = k} {w = w} {w' = w'} j l S =
+-- where only stamps, cheap places and the row of each column change
+pub columns_same : {n k : ℕ} (w : Work) (v c r : List ℕ) → Stays n w.visited v → Stays n w.cheap c → Stays n w.col2row r
+    → SameWork n k w (record w { visited = v; cheap = c; col2row = r })
+columns_same w v c r V C R = record {
+  visited = V;
+  cheap = C;
+  finished = unchanged;
+  col2row = R;
+  backstarts = unchanged;
+  backrows = unchanged;
+  cols = unchanged;
+  places = unchanged;
+}
+
+-- a slice that stays beyond k stays beyond more
+stays_more : {k : ℕ} (j : ℕ) {xs ys : List ℕ} → k ≤ j → Stays k xs ys → Stays j xs ys
+stays_more {k} j {xs} {ys} l S =
     let z : k + (j - k) ≡ j = omega arith in
     record {
-      visited_beyond = S.visited_beyond;
-      cheap_beyond = S.cheap_beyond;
-      finished_beyond = S.finished_beyond;
-      col2row_beyond = S.col2row_beyond;
-      backstarts_beyond = S.backstarts_beyond;
-      backrows_beyond = ap (λ (x : ℕ). drop x w'.backrows) (sym z) ∙ sym (drop-drop (j - k) k w'.backrows)
-          ∙ ap (drop (j - k)) S.backrows_beyond ∙ drop-drop (j - k) k w.backrows ∙ ap (λ (x : ℕ). drop x w.backrows) z;
-      cols_beyond = S.cols_beyond;
-      places_beyond = S.places_beyond;
+      same_length = S.same_length;
+      beyond = ap (λ (x : ℕ). drop x ys) (sym z) ∙ sym (drop-drop (j - k) k ys) ∙ ap (drop (j - k)) S.beyond ∙ drop-drop (j - k) k xs
+          ∙ ap (λ (x : ℕ). drop x xs) z;
     }
+
+-- what stays for k entries stays for more
+same_more : {n k : ℕ} {w w' : Work} (j : ℕ) → k ≤ j → SameWork n k w w' → SameWork n j w w'
+same_more j l S = record {
+  visited = S.visited;
+  cheap = S.cheap;
+  finished = S.finished;
+  col2row = S.col2row;
+  backstarts = S.backstarts;
+  backrows = stays_more j l S.backrows;
+  cols = S.cols;
+  places = S.places;
+}
 
 -- room for some entries is room for fewer
 fewer_room : {n k : ℕ} (j : ℕ) (w : Work) → k ≤ j → Roomy (work_buffers n j w) → Roomy (work_buffers n k w)
@@ -108,49 +129,24 @@ fewer_room j w l R =
 
 -- ---- after the search
 
--- an edit whose search returned r, and left v and c as stamps and cheap places, s and t as the stack, and m as the matching
+-- an edit whose search returned r, and left v as stamps and m as the matching
 pub record Searched (size : ℕ) (starts : List ℕ) (rows : List Row) (e : Col) (new : List Row) (l : Lent) (r : Option Column)
-    (v c s t m : List ℕ) : Type 0 where
+    (v m : List ℕ) : Type 0 where
   pub given : Given size starts rows e new l
   pub ends : EndsAt size v m r (rematching size (column_or starts rows e new) (take size l.outer.row2col) e)
   pub kept : IsSome r → m ≡ l.outer.row2col
   pub matching : SameBeyond size l.outer.row2col m
-  pub visited : SameBeyond size l.inner.visited v
-  pub cheap : SameBeyond size l.inner.cheap c
-  pub cols : SameBeyond size l.inner.scol s
-  pub places : SameBeyond size l.inner.sat t
   pub matching_length : length m ≡ length l.outer.row2col
-  pub visited_length : length v ≡ length l.inner.visited
-  pub cheap_length : length c ≡ length l.inner.cheap
-  pub cols_length : length s ≡ length l.inner.scol
-  pub places_length : length t ≡ length l.inner.sat
 
--- a search over stamps and cheap places that were cleared
-pub searched : {size : ℕ} {starts : List ℕ} {rows : List Row} {e : Col} {new : List Row} {r : Option Column}
-    {v₁ c₁ v c s t m : List ℕ} (l : Lent) → Given size starts rows e new l → v₁ ≡ zeroed size l.inner.visited
-    → c₁ ≡ zeroed size l.inner.cheap → EndsAt size v m r (rematching size (column_or starts rows e new) (take size l.outer.row2col) e)
-    → (IsSome r → m ≡ l.outer.row2col) → SameBeyond size l.outer.row2col m
-    → SameBeyond size v₁ v × SameBeyond size c₁ c × SameBeyond size l.inner.scol s × SameBeyond size l.inner.sat t
-    → length m ≡ length l.outer.row2col → length v ≡ length l.inner.visited → length c ≡ length l.inner.cheap
-    → length s ≡ length l.inner.scol → length t ≡ length l.inner.sat → Searched size starts rows e new l r v c s t m
-searched {size} l G zv zc E k same beyond lm lv lc ls lt = record {
-  given = G;
-  ends = E;
-  kept = k;
-  matching = same;
-  visited = cleared_beyond size l.inner.visited _ _ zv beyond.0;
-  cheap = cleared_beyond size l.inner.cheap _ _ zc beyond.1;
-  cols = beyond.2;
-  places = beyond.3;
-  matching_length = lm;
-  visited_length = lv;
-  cheap_length = lc;
-  cols_length = ls;
-  places_length = lt;
-}
+pub searched : {size : ℕ} {starts : List ℕ} {rows : List Row} {e : Col} {new : List Row} {l : Lent} {r : Option Column}
+    {v m : List ℕ} → Given size starts rows e new l
+    → EndsAt size v m r (rematching size (column_or starts rows e new) (take size l.outer.row2col) e)
+    → (IsSome r → m ≡ l.outer.row2col) → SameBeyond size l.outer.row2col m → length m ≡ length l.outer.row2col
+    → Searched size starts rows e new l r v m
+searched G E k M n = record { given = G; ends = E; kept = k; matching = M; matching_length = n }
 
-module _ {size : ℕ} {starts : List ℕ} {rows : List Row} {e : Col} {new : List Row} {l : Lent} {r : Option Column}
-    {v c s t m : List ℕ} (S : Searched size starts rows e new l r v c s t m) where
+module _ {size : ℕ} {starts : List ℕ} {rows : List Row} {e : Col} {new : List Row} {l : Lent} {r : Option Column} {v m : List ℕ}
+    (S : Searched size starts rows e new l r v m) where
   -- the matching is as long as the size
   long : size ≤ length m
   long = omega (arith, S.matching_length, S.given.room.1.1.1.1.1.1.1.1.0)
@@ -176,15 +172,6 @@ module _ {size : ℕ} {starts : List ℕ} {rows : List Row} {e : Col} {new : Lis
         matching_long = long;
       }
 
-  -- the workspace has room for the edited matrix
-  pub searched_room : Roomy (work_buffers size (entries size (column_or starts rows e new)) (work v c l.inner.finished
-      l.inner.col2row l.inner.backstarts l.inner.backrows s t))
-  searched_room =
-      work_kept size (entries size (column_or starts rows e new)) l.inner (work v c l.inner.finished l.inner.col2row
-      l.inner.backstarts l.inner.backrows s t) S.visited_length S.cheap_length refl refl refl refl S.cols_length
-      S.places_length (fewer_room (edit_entries size rows) l.inner (entries_roomy S.given.valid.shaped S.given.editable)
-      (roomy_split (work_buffers size (edit_entries size rows) l.inner) (output_buffers size l.outer) S.given.room).0)
-
   -- accepted: the blocks cut are handed out
   pub searched_accepted : {hall cols ends : List ℕ} {k : ℕ} → r ≡ None → hall ≡ zeroed size l.outer.hall
       → HoldsBlocks size (blocks size (targets (column_or starts rows e new) m)) l.outer.blockcols
@@ -197,39 +184,23 @@ module _ {size : ℕ} {starts : List ℕ} {rows : List Row} {e : Col} {new : Lis
       ∙ rw H.verdict
 
   -- refused: the old matching, the marks and no blocks are handed out
-  pub searched_refused : {failed : Column} {hall cols ends : List ℕ} {answer : BlockAnswer} → r ≡ Some failed
-      → answer ≡ unmatchable failed.0 → hall ≡ filled (table (λ d. bit (eqb (get_or v d 0) (failed.0 + 1))) size) l.outer.hall
-      → cols ≡ zeroed (form_need size) l.outer.blockcols → ends ≡ zeroed (starts_need size) l.outer.blockstarts
-      → (w : Work) → ended answer (lent w (outputs m hall cols ends)) ≡ handed_out size (column_or starts rows e new) w l.outer
+  pub searched_refused : {failed : Column} {stamps : List ℕ} → r ≡ Some failed → stamps ≡ v → (w : Work)
+      → ended (unmatchable failed.0) (lent w (refused_outputs size (table (λ d. bit (eqb (get_or stamps d 0) (failed.0 + 1))) size)
+      (record l.outer { row2col = m }))) ≡ handed_out size (column_or starts rows e new) w l.outer
       (rematching size (column_or starts rows e new) (take size l.outer.row2col) e)
-  searched_refused {failed} f a eh ec es w =
-      rw a (ends_refused size failed (column_or starts rows e new) w v l.outer
-      (rematching size (column_or starts rows e new) (take size l.outer.row2col) e) (rw f at S.ends) (S.kept (ap is_some f)) eh ec es)
+  searched_refused {failed} f z w =
+      rw z (ends_refused size failed (column_or starts rows e new) w v l.outer
+      (rematching size (column_or starts rows e new) (take size l.outer.row2col) e) (rw f at S.ends) (S.kept (ap is_some f)))
 
-  -- the search changed four slices of the workspace, below the need
-  same : SameWork size (edit_entries size rows) l.inner (work v c l.inner.finished l.inner.col2row
-      l.inner.backstarts l.inner.backrows s t)
-  same = record {
-    visited_beyond = S.visited;
-    cheap_beyond = S.cheap;
-    finished_beyond = refl;
-    col2row_beyond = refl;
-    backstarts_beyond = refl;
-    backrows_beyond = refl;
-    cols_beyond = S.cols;
-    places_beyond = S.places;
-  }
+module _ {size : ℕ} {starts : List ℕ} {rows : List Row} {e : Col} {new : List Row} {l : Lent} {w : Work}
+    (G : Given size starts rows e new l) (S : SameWork size (edit_entries size rows) l.inner w) where
+  -- a workspace that stays has room for the edited matrix
+  pub edited_room : Roomy (work_buffers size (entries size (column_or starts rows e new)) w)
+  edited_room =
+      work_kept size _ l.inner w S (fewer_room (edit_entries size rows) l.inner (entries_roomy G.valid.shaped G.editable)
+      (roomy_split (work_buffers size (edit_entries size rows) l.inner) (output_buffers size l.outer) G.room).0)
 
-  -- so it is cleared to what it would have been
-  pub searched_cleared : cleared size (edit_entries size rows) (work v c l.inner.finished l.inner.col2row
-      l.inner.backstarts l.inner.backrows s t) ≡ cleared size (edit_entries size rows) l.inner
-  searched_cleared = same_cleared size (edit_entries size rows) l.inner _ same
-
-  -- also after the passes, which need no more than there is room for
-  pub passed_cleared : {x : Work} → SameWork size (entries size (column_or starts rows e new)) (work v c l.inner.finished
-      l.inner.col2row l.inner.backstarts l.inner.backrows s t) x
-      → cleared size (edit_entries size rows) x ≡ cleared size (edit_entries size rows) l.inner
-  passed_cleared A =
-      same_cleared size (edit_entries size rows) _ _
-      (same_more (edit_entries size rows) (entries_roomy S.given.valid.shaped S.given.editable) A)
-      ∙ searched_cleared
+  -- and stays over the passes, which need no more than there is room for
+  pub passed_same : {x : Work} → SameWork size (entries size (column_or starts rows e new)) w x
+      → SameWork size (edit_entries size rows) l.inner x
+  passed_same A = same_then S (same_more (edit_entries size rows) (entries_roomy G.valid.shaped G.editable) A)

@@ -22,14 +22,16 @@ use Rattle.triangular.specs.Outcome.{BlockAnswer, unmatchable}
 abbrev pub edit_entries : ℕ → List Row → ℕ
 edit_entries size rows = length rows + size
 
+-- the outputs of 9: the old matching stays, the columns are marked so, and there are no blocks
+abbrev pub refused_outputs : ℕ → List ℕ → Outputs → Outputs
+refused_outputs size marks o =
+    outputs o.row2col (filled marks o.hall) (zeroed (form_need size) o.blockcols) (zeroed (starts_need size) o.blockstarts)
+
 -- accepted: the new matching and its blocks, as the block form hands them out; 9: the old matching stays, the visited columns are marked,
 -- and there are no blocks
 abbrev pub handed_out : ℕ → Pattern → Work → Outputs → Verdict → Outcome
 handed_out size col w o (accepted m) = form.handed_out size col w o (accepted m)
-handed_out size col w o (refused c visited) =
-    ended (unmatchable c)
-    (lent w (outputs o.row2col (filled (marks_of size visited) o.hall) (zeroed (form_need size) o.blockcols)
-    (zeroed (starts_need size) o.blockstarts)))
+handed_out size col w o (refused c visited) = ended (unmatchable c) (lent w (refused_outputs size (marks_of size visited) o))
 
 -- where 1, 2, 5 and 3 let an edit through: 4, 13, 14, 15 and the late 1 change no output; else the verdict of the one search, in the
 -- edited matrix and from the old matching, is handed out

@@ -1,68 +1,57 @@
 -- `edit_valid` meets its contract: a search that failed is refused with its stamps as marks, and a path found is cut into blocks.
-use Rattle.std.proofs.Common.{arith}
-use Rattle.triangular.specs.Outcome.{work, outputs, lent}
+use Rattle.std.proofs.Common.{rules, Ok, ap, ◌∙◌}
+use Rattle.triangular.specs.Outcome.{held_work, held_outputs, held, ended, lent}
+use Rattle.triangular.proofs.Work.{same_then, matching_same, zeroed_stays}
 use Rattle.edit.proofs.EditedEntries.{entries_few}
-use Rattle.edit.proofs.ValidEdit.{given_edit, searched, searched_reversible, searched_room}
-use Rattle.edit.proofs.ValidEdit.{searched_accepted, searched_refused, passed_cleared}
+use Rattle.edit.proofs.ValidEdit.{given_edit, unchanged, columns_same, edited_room, passed_same}
+use Rattle.edit.proofs.ValidEdit.{searched, searched_reversible, searched_accepted, searched_refused}
 use Rattle.edit.proofs.valid.edit_valid.Goals as goal
 
-pub returns-in-Some-clause-blockstarts_after : goal.returns-in-Some-clause-blockstarts_after
-returns-in-Some-clause-blockstarts_after c =
-    let l = lent (work c.args.visited.now c.args.cheap.now c.args.finished.now c.args.col2row.now c.args.backstarts.now
-    c.args.backrows.now c.args.scol.now c.args.sat.now)
-    (outputs c.args.row2col.now c.args.hall.now c.args.blockcols.now c.args.blockstarts.now) in
+pub returns-in-Some-clause-outputs_after : goal.returns-in-Some-clause-outputs_after
+returns-in-Some-clause-outputs_after c =
+    let l = held c.args.work.now c.args.outputs.now in
+    let given = given_edit c.args.mat.now c.args.edit.now l c.requires.once c.requires.editable c.requires.roomy in
     let found = c.rematch-failed.ensures in
-    let kept = c.rematch-failed.auto in
-    let S = searched l (given_edit c.args.mat.now c.args.edit.now l c.requires.once c.requires.editable c.requires.roomy)
-    c.clear.ensures c.clear-2.ensures found.ends_at found.row2col_unchanged found.same_beyond found.work_beyond kept.row2col
-    (omega (arith, kept.visited, c.clear.auto)) (omega (arith, kept.cheap, c.clear-2.auto)) kept.scol kept.sat in
-    let blocks = c.refuse_edit.ensures.blockcols_after in
-    searched_refused S c.in-Some.is c.refuse_edit.ensures.value c.refuse_edit.ensures.hall_after blocks.0 blocks.1
+    let S = searched given found.ends_at found.row2col_unchanged found.same_beyond c.rematch-failed.auto.row2col in
+    λ u. rw (c.refuse_edit.ensures.value, c.refuse_edit.ensures.outputs_after)
+    (searched_refused S c.in-Some.is (search (rules, found.same_work.slices)) u)
+
+pub returns-in-Some-clause-same_work : goal.returns-in-Some-clause-same_work
+returns-in-Some-clause-same_work c =
+    let w = held_work c.args.work.now in
+    let found = c.rematch-failed.ensures in
+    (same_then (columns_same w _ _ _ (zeroed_stays c.clear.ensures c.clear.auto.s) (zeroed_stays c.clear-2.ensures c.clear-2.auto.s)
+    unchanged) (matching_same _ _ _ _ found.same_work (search (rules, found.same_work.slices))))
 
 pub block_matched-count-requires-clause-reversible : goal.block_matched-count-requires-clause-reversible
 block_matched-count-requires-clause-reversible c =
-    let l = lent (work c.args.visited.now c.args.cheap.now c.args.finished.now c.args.col2row.now c.args.backstarts.now
-    c.args.backrows.now c.args.scol.now c.args.sat.now)
-    (outputs c.args.row2col.now c.args.hall.now c.args.blockcols.now c.args.blockstarts.now) in
+    let l = held c.args.work.now c.args.outputs.now in
+    let given = given_edit c.args.mat.now c.args.edit.now l c.requires.once c.requires.editable c.requires.roomy in
     let found = c.rematch-failed.ensures in
-    let kept = c.rematch-failed.auto in
-    let S = searched l (given_edit c.args.mat.now c.args.edit.now l c.requires.once c.requires.editable c.requires.roomy)
-    c.clear.ensures c.clear-2.ensures found.ends_at found.row2col_unchanged found.same_beyond found.work_beyond kept.row2col
-    (omega (arith, kept.visited, c.clear.auto)) (omega (arith, kept.cheap, c.clear-2.auto)) kept.scol kept.sat in
+    let S = searched given found.ends_at found.row2col_unchanged found.same_beyond c.rematch-failed.auto.row2col in
     (searched_reversible S c.in_default.is, entries_few c.args.mat.now.mat.shaped c.requires.editable)
 
 pub block_matched-count-requires-clause-roomy : goal.block_matched-count-requires-clause-roomy
 block_matched-count-requires-clause-roomy c =
-    let l = lent (work c.args.visited.now c.args.cheap.now c.args.finished.now c.args.col2row.now c.args.backstarts.now
-    c.args.backrows.now c.args.scol.now c.args.sat.now)
-    (outputs c.args.row2col.now c.args.hall.now c.args.blockcols.now c.args.blockstarts.now) in
+    let l = held c.args.work.now c.args.outputs.now in
+    let given = given_edit c.args.mat.now c.args.edit.now l c.requires.once c.requires.editable c.requires.roomy in
     let found = c.rematch-failed.ensures in
-    let kept = c.rematch-failed.auto in
-    let S = searched l (given_edit c.args.mat.now c.args.edit.now l c.requires.once c.requires.editable c.requires.roomy)
-    c.clear.ensures c.clear-2.ensures found.ends_at found.row2col_unchanged found.same_beyond found.work_beyond kept.row2col
-    (omega (arith, kept.visited, c.clear.auto)) (omega (arith, kept.cheap, c.clear-2.auto)) kept.scol kept.sat in
-    searched_room S
+    edited_room given (same_then (columns_same l.inner _ _ _ (zeroed_stays c.clear.ensures c.clear.auto.s) (zeroed_stays c.clear-2.ensures c.clear-2.auto.s)
+    unchanged) (matching_same _ _ _ _ found.same_work (search (rules, found.same_work.slices))))
 
-pub returns-clause-blockstarts_after : goal.returns-clause-blockstarts_after
-returns-clause-blockstarts_after c =
-    let l = lent (work c.args.visited.now c.args.cheap.now c.args.finished.now c.args.col2row.now c.args.backstarts.now
-    c.args.backrows.now c.args.scol.now c.args.sat.now)
-    (outputs c.args.row2col.now c.args.hall.now c.args.blockcols.now c.args.blockstarts.now) in
+pub returns-clause-outputs_after : goal.returns-clause-outputs_after
+returns-clause-outputs_after c =
+    let l = held c.args.work.now c.args.outputs.now in
+    let given = given_edit c.args.mat.now c.args.edit.now l c.requires.once c.requires.editable c.requires.roomy in
     let found = c.rematch-failed.ensures in
-    let kept = c.rematch-failed.auto in
-    let S = searched l (given_edit c.args.mat.now c.args.edit.now l c.requires.once c.requires.editable c.requires.roomy)
-    c.clear.ensures c.clear-2.ensures found.ends_at found.row2col_unchanged found.same_beyond found.work_beyond kept.row2col
-    (omega (arith, kept.visited, c.clear.auto)) (omega (arith, kept.cheap, c.clear-2.auto)) kept.scol kept.sat in
-    searched_accepted S c.in_default.is c.clear-3.ensures c.block_matched-count.ensures.holds_blocks
+    let S = searched given found.ends_at found.row2col_unchanged found.same_beyond c.rematch-failed.auto.row2col in
+    λ u. ap (λ x. ended (Ok c.block_matched-count.result) (lent u x)) (ap held_outputs c.block_matched-count.ensures.same_outputs)
+    ∙ searched_accepted S c.in_default.is c.clear-3.ensures c.block_matched-count.ensures.holds_blocks u
 
-pub returns-clause-sat_unchanged : goal.returns-clause-sat_unchanged
-returns-clause-sat_unchanged c =
-    let l = lent (work c.args.visited.now c.args.cheap.now c.args.finished.now c.args.col2row.now c.args.backstarts.now
-    c.args.backrows.now c.args.scol.now c.args.sat.now)
-    (outputs c.args.row2col.now c.args.hall.now c.args.blockcols.now c.args.blockstarts.now) in
+pub returns-clause-same_work : goal.returns-clause-same_work
+returns-clause-same_work c =
+    let l = held c.args.work.now c.args.outputs.now in
+    let given = given_edit c.args.mat.now c.args.edit.now l c.requires.once c.requires.editable c.requires.roomy in
     let found = c.rematch-failed.ensures in
-    let kept = c.rematch-failed.auto in
-    let S = searched l (given_edit c.args.mat.now c.args.edit.now l c.requires.once c.requires.editable c.requires.roomy)
-    c.clear.ensures c.clear-2.ensures found.ends_at found.row2col_unchanged found.same_beyond found.work_beyond kept.row2col
-    (omega (arith, kept.visited, c.clear.auto)) (omega (arith, kept.cheap, c.clear-2.auto)) kept.scol kept.sat in
-    passed_cleared S c.block_matched-count.ensures.same_work
+    passed_same given (same_then (columns_same l.inner _ _ _ (zeroed_stays c.clear.ensures c.clear.auto.s) (zeroed_stays c.clear-2.ensures c.clear-2.auto.s)
+    unchanged) (matching_same _ _ _ _ found.same_work (search (rules, found.same_work.slices)))) c.block_matched-count.ensures.same_work
