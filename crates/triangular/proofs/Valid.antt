@@ -1,6 +1,6 @@
 -- The block form of a valid matrix: what the matching hands on lets the blocks be cut, and both ends hand out the verdict.
 use Prim.Native.Nat.{ℕ, ◌≤◌, ◌<◌}
-use mathlib.Core.Path.{◌≡◌, refl, ◌∙◌, subst}
+use mathlib.Core.Path.{◌≡◌, ◌∙◌}
 use mathlib.Core.List.{List}
 use native.Mathlib.Decide.{dec_lt}
 use native.Mathlib.Omega.{arith}
@@ -18,7 +18,7 @@ use Rattle.sparse.proofs.Matrix.{inside, column_beyond}
 use Rattle.matching.specs.Matching.{matching}
 use Rattle.matching.proofs.Ready.{column_short}
 use Rattle.blocks.specs.Cut.{HoldsBlocks}
-use Rattle.triangular.specs.Outcome.{Work, work, Outputs, outputs, Lent, lent, buffers, cleared}
+use Rattle.triangular.specs.Outcome.{Work, Outputs, outputs, Lent, lent, buffers, cleared}
 use Rattle.triangular.specs.Outcome.{BlockAnswer, handed_out, formed, outcome, ended, Given, Means}
 use Rattle.blocks.specs.Reverse.{Reversible}
 use Rattle.std.specs.Prelude.{Ok}

@@ -15,6 +15,7 @@ ghost use Rattle.triangular.specs.Parts.{SameWork};
 use super::form::{FormOutputs, FormWork};
 use blocks::cut::{cut_blocks, finish_columns};
 use blocks::reverse::reverse_graph;
+use blocks::walk::WalkWork;
 use sparse::slices::{clear, get, invert};
 use sparse::{Column, EditedMat, OriginalRow, SparseMat};
 
@@ -25,24 +26,18 @@ fn cut_matched(
     backrows: &[u32],
     row2col: &[u32],
     finished: &[u32],
-    visited: &mut [u32],
-    scol: &mut [u32],
-    sat: &mut [u32],
-    blockcols: &mut [u32],
-    cheap: &mut [u32],
+    work: &mut WalkWork,
     blockstarts: &mut [u32],
 ) -> u32
     requires size_in_bounds { (size < length backstarts.now) × (get_or backstarts.now size 0 ≤ length backrows.now)
         × Shaped size (take (size + 1) backstarts.now) (take (get_or backstarts.now size 0) backrows.now) }
     requires pass_ready { PassReady size (column (take (size + 1) backstarts.now) (take (get_or backstarts.now size 0) backrows.now))
-        row2col.now second_pass visited.old scol.old sat.old blockcols.old cheap.old }
+        row2col.now second_pass work.old }
     requires cut_ready { CutReady size finished.now blockstarts.old }
     ensures holds_blocks { HoldsBlocks size (cut (targets (column (take (size + 1) backstarts.now)
-        (take (get_or backstarts.now size 0) backrows.now)) row2col.now) size []
-        (last_first finished.now size)) blockcols.old blockstarts.old
-        blockcols.new blockstarts.new result }
-    ensures same_from { SameFrom size visited.old scol.old sat.old blockcols.old
-        cheap.old visited.new scol.new sat.new blockcols.new cheap.new }
+        (take (get_or backstarts.now size 0) backrows.now)) row2col.now) size [] (last_first finished.now size))
+        work.old.entered.now blockstarts.old work.new.entered.now blockstarts.new result }
+    ensures same_from { SameFrom size work.old work.new }
 {
     let end: u32 = get(backstarts, size);
     let reversed = SparseMat {
@@ -50,17 +45,7 @@ fn cut_matched(
         starts: &backstarts[..size as usize + 1],
         rows: &backrows[..end as usize],
     };
-    cut_blocks(
-        &reversed,
-        row2col,
-        finished,
-        visited,
-        scol,
-        sat,
-        blockcols,
-        cheap,
-        blockstarts,
-    )
+    cut_blocks(&reversed, row2col, finished, work, blockstarts)
 }
 
 // The blocks of a matrix under a perfect matching. Returns how many there are. What the workspace holds afterwards is the caller's to
@@ -83,28 +68,37 @@ pub fn block_matched(mat: &EditedMat, work: &mut FormWork, outputs: &mut FormOut
 {
     let size = mat.mat.size;
     clear(work.visited, size);
-    finish_columns(
-        mat,
-        outputs.row2col,
-        work.visited,
-        work.scol,
-        work.sat,
-        outputs.blockcols,
-        work.finished,
-    );
-    invert::<OriginalRow, Column>(size, outputs.row2col, work.col2row);
-    reverse_graph(mat, outputs.row2col, work.col2row, work.backstarts, work.backrows);
+    // What is read while other slices of its struct are lent has a name of its own.
+    let row2col = &mut *outputs.row2col;
+    let mut first = WalkWork {
+        visited: &mut *work.visited,
+        scol: &mut *work.scol,
+        sat: &mut *work.sat,
+        entered: &mut *outputs.blockcols,
+        finished: &mut *work.finished,
+    };
+    finish_columns(mat, row2col, &mut first);
+    let finished = &mut *work.finished;
+    let col2row = &mut *work.col2row;
+    let backstarts = &mut *work.backstarts;
+    let backrows = &mut *work.backrows;
+    invert::<OriginalRow, Column>(size, row2col, col2row);
+    reverse_graph(mat, row2col, col2row, backstarts, backrows);
+    // Nothing asks for the columns that this pass finishes: they go where the matching's cheap places were.
+    let mut second = WalkWork {
+        visited: &mut *work.visited,
+        scol: &mut *work.scol,
+        sat: &mut *work.sat,
+        entered: &mut *outputs.blockcols,
+        finished: &mut *work.cheap,
+    };
     cut_matched(
         size,
-        work.backstarts,
-        work.backrows,
-        outputs.row2col,
-        work.finished,
-        work.visited,
-        work.scol,
-        work.sat,
-        outputs.blockcols,
-        work.cheap,
+        backstarts,
+        backrows,
+        row2col,
+        finished,
+        &mut second,
         outputs.blockstarts,
     )
 }

@@ -1,10 +1,9 @@
 -- `block_tested` meets its contract: a repeated row refuses, and else the valid matrix is formed.
-use Rattle.std.proofs.Common.{arith, sym, ap, ◌∙◌}
+use Rattle.std.proofs.Common.{sym, ◌∙◌}
 use Rattle.std.proofs.lemmas.Result.{err_from_is_err_and}
 use Rattle.sparse.proofs.Matrix.{column_once}
-use Rattle.triangular.specs.Outcome.{held_work, held_outputs}
+use Rattle.triangular.specs.Outcome.{held_outputs}
 use Rattle.triangular.proofs.Outcome.{repeat_formed, verdict_formed}
-use Rattle.triangular.proofs.Work.{same_then, stamps_same, zeroed_stays}
 use Rattle.triangular.proofs.entry.block_tested.Goals as goal
 
 pub returns-in_err-check_repeats-clause-outputs_after : goal.returns-in_err-check_repeats-clause-outputs_after
@@ -13,26 +12,12 @@ returns-in_err-check_repeats-clause-outputs_after c =
     λ w. rw (p.1, p.2)
     (repeat_formed _ _ _ w (held_outputs c.args.outputs.now) _ (sym c.check_repeats.ensures.value ∙ c.in_err-check_repeats.was))
 
-pub returns-in_err-check_repeats-clause-same_work : goal.returns-in_err-check_repeats-clause-same_work
-returns-in_err-check_repeats-clause-same_work c =
-    stamps_same (held_work c.args.work.now) _
-    (zeroed_stays (c.check_repeats.ensures.marks_unchanged ∙ c.clear.ensures) (c.check_repeats.auto ∙ c.clear.auto))
-
 pub block_valid-requires-clause-once : goal.block_valid-requires-clause-once
 block_valid-requires-clause-once c =
     λ d l. column_once c.args.mat.now.mat.shaped (sym c.check_repeats.ensures.value ∙ c.in_ok-check_repeats.was) d
-
-pub block_valid-requires-clause-roomy : goal.block_valid-requires-clause-roomy
-block_valid-requires-clause-roomy c = (omega (arith, c.requires.0, c.clear.auto, c.check_repeats.auto), c.requires.1)
 
 pub returns-clause-outputs_after : goal.returns-clause-outputs_after
 returns-clause-outputs_after c w =
     c.block_valid.ensures.outputs_after w
     ∙ verdict_formed _ _ _ w (held_outputs c.args.outputs.now)
     (sym c.check_repeats.ensures.value ∙ c.in_ok-check_repeats.was)
-
-pub returns-clause-same_work : goal.returns-clause-same_work
-returns-clause-same_work c =
-    same_then (stamps_same (held_work c.args.work.now) _
-    (zeroed_stays (c.check_repeats.ensures.marks_unchanged ∙ c.clear.ensures) (c.check_repeats.auto ∙ c.clear.auto)))
-    c.block_valid.ensures.same_work

@@ -1,5 +1,5 @@
 -- `find_block_diag_form` meets its contract: a refusal of the early checks, or what is formed with the workspace cleared, is the outcome.
-use Rattle.std.proofs.Common.{ℕ, Err, sym, ap, ◌∙◌, length, ltb}
+use Rattle.std.proofs.Common.{rules, Err, sym, ap, refl, ◌∙◌, length}
 use Rattle.std.proofs.lemmas.Result.{err_from_is_err_and}
 use Rattle.sparse.specs.Refusals.{checked}
 use Rattle.sparse.proofs.Early.{early_passed}
@@ -7,14 +7,13 @@ use Rattle.triangular.specs.Outcome.{BlockAnswer, held_work, held_outputs, held,
 use Rattle.triangular.proofs.Room.{work_kept, roomy_split}
 use Rattle.triangular.proofs.Outcome.{early_outcome, outcome_means}
 use Rattle.triangular.proofs.Valid.{tested_exit}
-use Rattle.triangular.proofs.Work.{same_cleared, work_slices}
+use Rattle.triangular.proofs.Work.{same_cleared}
 use Rattle.triangular.proofs.entry.find_block_diag_form.Goals as goal
 
 pub returns-in_err-mat : goal.returns-in_err-mat
 returns-in_err-mat c =
     let l = held c.args.work.now c.args.outputs.now in
-    let few = ap (λ (t : ℕ). ltb (length c.args.work.now.backrows.now) t) c.entries_need.ensures in
-    let found = c.check_early.ensures.value _ (c.lacks_room-short.ensures (length c.args.rows.now) few) in
+    let found = c.check_early.ensures.value _ (c.lacks_room-short.ensures (length c.args.rows.now) (rw c.entries_need.ensures refl)) in
     let p = err_from_is_err_and c.from_residual.result c.from_residual.ensures.1 in
     let e = ap (λ (a : BlockAnswer). ended a l) (p.1 ∙ ap (λ r. Err r) p.2)
     ∙ early_outcome _ _ _ l _ (sym found ∙ ap checked c.in_err-mat.was) in
@@ -22,15 +21,13 @@ returns-in_err-mat c =
 
 pub block_tested-answer-requires : goal.block_tested-answer-requires
 block_tested-answer-requires c =
-    let few = ap (λ (t : ℕ). ltb (length c.args.work.now.backrows.now) t) c.entries_need.ensures in
-    let found = c.check_early.ensures.value _ (c.lacks_room-short.ensures (length c.args.rows.now) few) in
+    let found = c.check_early.ensures.value _ (c.lacks_room-short.ensures (length c.args.rows.now) (rw c.entries_need.ensures refl)) in
     let mat = c.in_ok-mat.ensures in
     rw (mat.size, mat.rows) (early_passed _ _ _ _ (sym found ∙ ap checked c.in_ok-mat.was)).room
 
 pub clear_work-requires-clause-roomy : goal.clear_work-requires-clause-roomy
 clear_work-requires-clause-roomy c =
-    let few = ap (λ (t : ℕ). ltb (length c.args.work.now.backrows.now) t) c.entries_need.ensures in
-    let found = c.check_early.ensures.value _ (c.lacks_room-short.ensures (length c.args.rows.now) few) in
+    let found = c.check_early.ensures.value _ (c.lacks_room-short.ensures (length c.args.rows.now) (rw c.entries_need.ensures refl)) in
     let room = (early_passed _ _ _ _ (sym found ∙ ap checked c.in_ok-mat.was)).room in
     let size = c.args.size in
     let entries = length c.args.rows.now in
@@ -41,13 +38,13 @@ clear_work-requires-clause-roomy c =
 pub returns : goal.returns
 returns c =
     let l = held c.args.work.now c.args.outputs.now in
-    let few = ap (λ (t : ℕ). ltb (length c.args.work.now.backrows.now) t) c.entries_need.ensures in
-    let found = c.check_early.ensures.value _ (c.lacks_room-short.ensures (length c.args.rows.now) few) in
+    let found = c.check_early.ensures.value _ (c.lacks_room-short.ensures (length c.args.rows.now) (rw c.entries_need.ensures refl)) in
     let mat = c.in_ok-mat.ensures in
     let tested = c.block_tested-answer in
     let same = rw (mat.size, mat.rows) at tested.ensures.same_work in
     let gives = rw (mat.size, mat.starts, mat.rows) at tested.ensures.outputs_after in
-    let zero = ap held_work c.clear_work.ensures ∙ same_cleared c.args.size (length c.args.rows.now) l.inner (held_work tested.new.work) same in
+    let zero = ap held_work c.clear_work.ensures
+    ∙ same_cleared c.args.size (length c.args.rows.now) l.inner (held_work tested.new.work) same in
     let e = tested_exit _ _ _ l (held_work c.clear_work.new.work) (held_outputs tested.new.outputs) _
     (sym found ∙ ap checked c.in_ok-mat.was) zero gives in
     record { outcome = e.0; meaning = e.1; same_slices = search rules }
