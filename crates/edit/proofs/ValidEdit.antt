@@ -33,7 +33,7 @@ use Rattle.rematching.specs.Rematching.{rematching}
 use Rattle.std.specs.Prelude.{Option, Some, None, Ok, is_some, IsSome}
 use Rattle.std.proofs.lemmas.Option.{none-some}
 use Rattle.triangular.specs.Outcome.{Work, Outputs, outputs, Lent, lent, work_buffers}
-use Rattle.triangular.specs.Outcome.{output_buffers, buffers, BlockAnswer, ended, unmatchable}
+use Rattle.triangular.specs.Outcome.{output_buffers, buffers, ended, unmatchable}
 use Rattle.triangular.specs.Parts.{SameWork}
 use Rattle.triangular.proofs.Room.{work_kept, roomy_split}
 use Rattle.triangular.proofs.Outcome.{Handed, handed_agree, hand_accepted}

@@ -29,7 +29,7 @@ fn edit_tested(
     ensures same_slices { (work.new ≡ holding_work work.old (held_work work.new))
         × (outputs.new ≡ holding_outputs outputs.old (held_outputs outputs.new)) }
 {
-    // A name of its own, for what is read while other slices are lent.
+    // What is only read has a name of its own, so that what it holds stays known to the proof.
     let row2col = &mut *outputs.row2col;
     clear(work.visited, mat.mat.size);
     check_edit(mat, edit, row2col, work.visited, work.col2row)?;

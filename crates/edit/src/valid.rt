@@ -68,7 +68,9 @@ pub fn edit_valid(
     let size = mat.mat.size;
     clear(work.visited, size);
     clear(work.cheap, size);
-    let row: OriginalRow = get(work.col2row, edit.column);
+    // What is only read has a name of its own, so that what it holds stays known to the proof.
+    let col2row = &mut *work.col2row;
+    let row: OriginalRow = get(col2row, edit.column);
     let mut slices = SearchWork {
         visited: &mut *work.visited,
         cheap: &mut *work.cheap,
