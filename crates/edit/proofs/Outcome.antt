@@ -1,5 +1,5 @@
 -- Each exit of `edit_column`: what it returns and leaves is the outcome, and has the meaning.
-use Rattle.std.proofs.Common.{ℕ, ◌<◌, ◌≤◌, ◌≡◌, refl, sym, ap, ◌∙◌, ◌≢◌, List, arith, length, take, length-take-le}
+use Rattle.std.proofs.Common.{ℕ, ◌<◌, ◌≤◌, ◌≡◌, refl, sym, ap, ◌∙◌, ◌≢◌, List, arith, length, take, length-take-le, Ok, Err}
 use Rattle.graph.specs.Matchings.{Row, Col, Pattern, Inside, Perfect, Points, partner}
 use Rattle.graph.specs.Blocks.{targets, blocks}
 use Rattle.graph.proofs.Matchings.{perfect_agree}
@@ -7,10 +7,8 @@ use Rattle.graph.proofs.SameSets.{same_sets}
 use Rattle.sparse.specs.Buffers.{filled}
 use Rattle.sparse.specs.Limits.{none, max_size}
 use Rattle.sparse.specs.Matrix.{column, column_or}
-use Rattle.sparse.specs.Refusals.{first_refusal, Roomy, early}
-use Rattle.sparse.specs.declared.Checked.{Checked}
-use Rattle.sparse.specs.declared.Checked.TheVariants as checked
-use Rattle.sparse.specs.declared.Refusal.{Refusal}
+use Rattle.sparse.specs.Refusals.{Checked, passed, number, first_refusal, Roomy, early}
+use Rattle.sparse.specs.declared.refusal.Refusal.{Refusal}
 use Rattle.sparse.proofs.Buffers.{filled_at}
 use Rattle.sparse.proofs.Early.{Early, early_passed, early_passes, early_number}
 use Rattle.sparse.proofs.Matrix.{column_once}
@@ -22,9 +20,7 @@ use Rattle.rematching.specs.Rematching.{rematching, Rerouted}
 use Rattle.rematching.proofs.Late.{late_passed, late_passes, late_number, late_not_nine}
 use Rattle.rematching.proofs.Rematching.{rematching_decides, rematching_place, rematching_reroutes_slice, perfect_take, edited_inside}
 use Rattle.blocks.specs.Form.{columns_of, block_starts, StoredForm}
-use Rattle.triangular.specs.Outcome.{Work, Outputs, Lent, lent, buffers, cleared, Outcome, ended}
-use Rattle.triangular.specs.declared.form.BlockAnswer.{BlockAnswer}
-use Rattle.triangular.specs.declared.form.BlockAnswer.TheVariants.{Accepted, Refused}
+use Rattle.triangular.specs.Outcome.{Work, Outputs, Lent, lent, buffers, cleared, BlockAnswer, Outcome, ended}
 use Rattle.triangular.proofs.Outcome.{blocks_stored}
 use Rattle.edit.specs.Outcome.{edit_entries, handed_out, replaced, outcome, Given, Accepts, Means}
 
@@ -37,7 +33,7 @@ matching_room size k l R = R.1.1.1.1.1.1.1.1.0
 -- what passes is given
 pub given : {size : ℕ} {starts : List ℕ} {rows : List Row} {e : Col} {new : List Row} {l : Lent}
     → Early size starts rows (buffers size (edit_entries size rows) l)
-    → first_refusal (late size starts rows e new l.outer.row2col) ≡ checked.Passed → Given size starts rows e new l
+    → first_refusal (late size starts rows e new l.outer.row2col) ≡ passed → Given size starts rows e new l
 given {size} {starts} {rows} {e} {new} {l} P q =
     let t = late_passed size starts rows e new l.outer.row2col (matching_room size (edit_entries size rows) l P.room) q in
     record {
@@ -48,41 +44,41 @@ given {size} {starts} {rows} {e} {new} {l} P q =
 
 -- what is given passes 1, 2, 5 and 3
 pub given_early : {size : ℕ} {starts : List ℕ} {rows : List Row} {e : Col} {new : List Row} {l : Lent} → Given size starts rows e new l
-    → first_refusal (early size starts rows (buffers size (edit_entries size rows) l)) ≡ checked.Passed
+    → first_refusal (early size starts rows (buffers size (edit_entries size rows) l)) ≡ passed
 given_early {size} {rows = rows} {l = l} G =
     early_passes (buffers size (edit_entries size rows) l) G.valid.shaped G.valid.below G.room
 
 -- and 4, 13, 14, 15 and the late 1
 pub given_late : {size : ℕ} {starts : List ℕ} {rows : List Row} {e : Col} {new : List Row} {l : Lent} → Given size starts rows e new l
-    → first_refusal (late size starts rows e new l.outer.row2col) ≡ checked.Passed
+    → first_refusal (late size starts rows e new l.outer.row2col) ≡ passed
 given_late G = late_passes G.valid G.editable
 
 -- ---- the exits of the outcome
 
 -- refused by 1, 2, 5 or 3: nothing has changed
 pub early_outcome : (size : ℕ) (starts : List ℕ) (rows : List Row) (e : Col) (new : List Row) (l : Lent) (r : Refusal)
-    → first_refusal (early size starts rows (buffers size (edit_entries size rows) l)) ≡ checked.Refused r
-    → ended (Refused r) l ≡ outcome size starts rows e new l
+    → first_refusal (early size starts rows (buffers size (edit_entries size rows) l)) ≡ Err r
+    → ended (Err r) l ≡ outcome size starts rows e new l
 unfolding outcome
 early_outcome size starts rows e new l r q = rw q
 
 -- else what the replacement makes, with workspace and stack zero
 pub replaced_outcome : (size : ℕ) (starts : List ℕ) (rows : List Row) (e : Col) (new : List Row) (l : Lent)
-    → first_refusal (early size starts rows (buffers size (edit_entries size rows) l)) ≡ checked.Passed
+    → first_refusal (early size starts rows (buffers size (edit_entries size rows) l)) ≡ passed
     → replaced size starts rows e new (cleared size (edit_entries size rows) l.inner) l.outer ≡ outcome size starts rows e new l
 unfolding outcome
 replaced_outcome size starts rows e new l p = rw p
 
 -- refused by 4, 13, 14, 15 or the late 1: no output has changed
 pub refused_replaced : (size : ℕ) (starts : List ℕ) (rows : List Row) (e : Col) (new : List Row) (w : Work) (o : Outputs) (r : Refusal)
-    → first_refusal (late size starts rows e new o.row2col) ≡ checked.Refused r
-    → ended (Refused r) (lent w o) ≡ replaced size starts rows e new w o
+    → first_refusal (late size starts rows e new o.row2col) ≡ Err r
+    → ended (Err r) (lent w o) ≡ replaced size starts rows e new w o
 unfolding replaced
 refused_replaced size starts rows e new w o r q = rw q
 
 -- else the verdict is handed out
 pub verdict_replaced : (size : ℕ) (starts : List ℕ) (rows : List Row) (e : Col) (new : List Row) (w : Work) (o : Outputs)
-    → first_refusal (late size starts rows e new o.row2col) ≡ checked.Passed
+    → first_refusal (late size starts rows e new o.row2col) ≡ passed
     → handed_out size (column_or starts rows e new) w o (rematching size (column_or starts rows e new) (take size o.row2col) e)
     ≡ replaced size starts rows e new w o
 unfolding replaced
@@ -120,17 +116,17 @@ reroutes {size} {starts} {rows} {new = new} {l = l} G p h =
 -- ---- the meaning
 
 -- a check does not both pass and refuse
-not_both : (x : Checked) (r : Refusal) → x ≡ checked.Passed → x ≡ checked.Refused r → ⊥
+not_both : (x : Checked) (r : Refusal) → x ≡ passed → x ≡ Err r → ⊥
 not_both x r e f = let z : ◌≡◌ {A = ℕ} 0 1 = cc in omega arith
 
 -- a refusal is no acceptance
-not_accepted : (r : Refusal) (k : ℕ) → Refused r ≡ Accepted k → ⊥
+not_accepted : (r : Refusal) (k : ℕ) → ◌≡◌ {A = BlockAnswer} (Err r) (Ok k) → ⊥
 not_accepted r k e = let z : ◌≡◌ {A = ℕ} 0 1 = cc in omega arith
 
 -- a refusal of the matrix, of the room or of the edit, which is not 9
 refused_means : (size : ℕ) (starts : List ℕ) (rows : List Row) (e : Col) (new : List Row) (l after : Lent) (r : Refusal)
-    → (¬ Given size starts rows e new l) → r.number ≢ 9 → after.outer.row2col ≡ l.outer.row2col
-    → Means size starts rows e new l after (Refused r)
+    → (¬ Given size starts rows e new l) → number r ≢ 9 → after.outer.row2col ≡ l.outer.row2col
+    → Means size starts rows e new l after (Err r)
 refused_means size starts rows e new l after r never other same = record {
   accepted_exactly = (λ a. absurd (not_accepted r a.0 a.1), λ t. absurd (never t.0));
   accepts = λ k a. absurd (not_accepted r k a);
@@ -142,19 +138,19 @@ refused_means size starts rows e new l after r never other same = record {
 
 -- refused by 1, 2, 5 or 3
 early_means : (size : ℕ) (starts : List ℕ) (rows : List Row) (e : Col) (new : List Row) (l after : Lent) (r : Refusal)
-    → first_refusal (early size starts rows (buffers size (edit_entries size rows) l)) ≡ checked.Refused r
-    → after.outer.row2col ≡ l.outer.row2col → Means size starts rows e new l after (Refused r)
+    → first_refusal (early size starts rows (buffers size (edit_entries size rows) l)) ≡ Err r
+    → after.outer.row2col ≡ l.outer.row2col → Means size starts rows e new l after (Err r)
 early_means size starts rows e new l after r q same =
     refused_means size starts rows e new l after r (λ G. not_both _ r (given_early G) q)
     (λ n. omega (arith, early_number size starts rows (buffers size (edit_entries size rows) l) r q)) same
 
 -- refused by 4, 13, 14, 15 or the late 1
 late_means : (size : ℕ) (starts : List ℕ) (rows : List Row) (e : Col) (new : List Row) (l after : Lent) (r : Refusal)
-    → first_refusal (late size starts rows e new l.outer.row2col) ≡ checked.Refused r
-    → after.outer.row2col ≡ l.outer.row2col → Means size starts rows e new l after (Refused r)
+    → first_refusal (late size starts rows e new l.outer.row2col) ≡ Err r
+    → after.outer.row2col ≡ l.outer.row2col → Means size starts rows e new l after (Err r)
 late_means size starts rows e new l after r q same =
     refused_means size starts rows e new l after r (λ G. not_both _ r (given_late G) q)
-    (late_not_nine r.number (late_number size starts rows e new l.outer.row2col r q)).1 same
+    (late_not_nine (number r) (late_number size starts rows e new l.outer.row2col r q)).1 same
 
 -- what acceptance hands out: a perfect matching in the slice, rerouted, with its blocks
 accepted_hands : {size : ℕ} {col : Pattern} {e : Col} (p old : List Col) (x y : List ℕ) → Inside size col → length p ≡ size
@@ -196,7 +192,7 @@ handed_means size starts rows e new l w (accepted p) G D R at = record {
   kept = λ q. absurd (q refl);
 }
   where
-    count : (k : ℕ) → Accepted (length (blocks size (targets (column_or starts rows e new) p))) ≡ Accepted k
+    count : (k : ℕ) → ◌≡◌ {A = BlockAnswer} (Ok (length (blocks size (targets (column_or starts rows e new) p)))) (Ok k)
         → length (blocks size (targets (column_or starts rows e new) p)) ≡ k
     count k a = cc
 handed_means size starts rows e new l w (refused c seen) G D R at = record {
@@ -210,8 +206,8 @@ handed_means size starts rows e new l w (refused c seen) G D R at = record {
 
 -- the verdict of what passes
 verdict_means : (size : ℕ) (starts : List ℕ) (rows : List Row) (e : Col) (new : List Row) (l after : Lent) (w : Work)
-    (answer : BlockAnswer) → first_refusal (early size starts rows (buffers size (edit_entries size rows) l)) ≡ checked.Passed
-    → first_refusal (late size starts rows e new l.outer.row2col) ≡ checked.Passed
+    (answer : BlockAnswer) → first_refusal (early size starts rows (buffers size (edit_entries size rows) l)) ≡ passed
+    → first_refusal (late size starts rows e new l.outer.row2col) ≡ passed
     → ended answer after ≡ handed_out size (column_or starts rows e new) w l.outer
     (rematching size (column_or starts rows e new) (take size l.outer.row2col) e)
     → Means size starts rows e new l after answer
@@ -233,25 +229,25 @@ outcome_means size starts rows e new l after answer h =
     w : Work
     w = cleared size (edit_entries size rows) l.inner
 
-    second : first_refusal (early size starts rows (buffers size (edit_entries size rows) l)) ≡ checked.Passed
+    second : first_refusal (early size starts rows (buffers size (edit_entries size rows) l)) ≡ passed
         → (x : Checked) → first_refusal (late size starts rows e new l.outer.row2col) ≡ x
         → Means size starts rows e new l after answer
-    second p (checked.Refused r) q =
+    second p (Err r) q =
         let f = h ∙ sym (replaced_outcome size starts rows e new l p)
         ∙ sym (refused_replaced size starts rows e new w l.outer r q) in
-        let b : answer ≡ Refused r = ap (λ (o : Outcome). o.answer) f in
+        let b : answer ≡ Err r = ap (λ (o : Outcome). o.answer) f in
         rw b (late_means size starts rows e new l after r q (ap (λ (o : Outcome). o.after.outer.row2col) f))
-    second p checked.Passed q =
+    second p (Ok u) q =
         verdict_means size starts rows e new l after w answer p q
         (h ∙ sym (replaced_outcome size starts rows e new l p) ∙ sym (verdict_replaced size starts rows e new w l.outer q))
 
     first : (x : Checked) → first_refusal (early size starts rows (buffers size (edit_entries size rows) l)) ≡ x
         → Means size starts rows e new l after answer
-    first (checked.Refused r) q =
+    first (Err r) q =
         let f = h ∙ sym (early_outcome size starts rows e new l r q) in
-        let b : answer ≡ Refused r = ap (λ (o : Outcome). o.answer) f in
+        let b : answer ≡ Err r = ap (λ (o : Outcome). o.answer) f in
         rw b (early_means size starts rows e new l after r q (ap (λ (o : Outcome). o.after.outer.row2col) f))
-    first checked.Passed q = second q (first_refusal (late size starts rows e new l.outer.row2col)) refl
+    first (Ok u) q = second q (first_refusal (late size starts rows e new l.outer.row2col)) refl
 
 -- ---- a single outcome
 
@@ -264,7 +260,7 @@ single size starts rows e new l x y h k = h ∙ sym k
 
 -- what the replacement makes, with the workspace cleared
 pub tested_exit : (size : ℕ) (starts : List ℕ) (rows : List Row) (e : Col) (new : List Row) (l : Lent) (w : Work) (o : Outputs)
-    (answer : BlockAnswer) → first_refusal (early size starts rows (buffers size (edit_entries size rows) l)) ≡ checked.Passed
+    (answer : BlockAnswer) → first_refusal (early size starts rows (buffers size (edit_entries size rows) l)) ≡ passed
     → w ≡ cleared size (edit_entries size rows) l.inner
     → ((u : Work) → ended answer (lent u o) ≡ replaced size starts rows e new u l.outer)
     → (ended answer (lent w o) ≡ outcome size starts rows e new l) × Means size starts rows e new l (lent w o) answer

@@ -1,84 +1,120 @@
 -- The edit of a valid matrix: what the search hands on lets the blocks be cut, and both ends hand out the rule's verdict.
 use Rattle.std.proofs.Common.{ℕ, ◌+◌, ◌-◌, ◌≤◌, ◌<◌, ◌≡◌, refl, sym, ap, ◌∙◌, List, arith, eqb, length, get_or, take, drop, drop-drop}
+use Rattle.std.proofs.Common.{Option, Some, None, Ok, is_some, IsSome}
 use Rattle.graph.specs.Counting.{bit}
-use Rattle.graph.specs.Lists.{elem, table}
+use Rattle.graph.specs.Lists.{Once, elem, table}
 use Rattle.graph.specs.Matchings.{Row, Col, Pattern, Perfect, partner}
 use Rattle.graph.specs.Blocks.{targets, blocks}
 use Rattle.graph.proofs.Lists.{table_ext}
 use Rattle.graph.proofs.Matchings.{perfect_agree}
 use Rattle.graph.proofs.Permutations.{permutes}
-use Rattle.sparse.specs.Buffers.{zeroed, filled}
+use Rattle.sparse.specs.Buffers.{zeroed}
 use Rattle.sparse.specs.Matrix.{column_or}
+use Rattle.sparse.specs.Columns.{columns}
 use Rattle.sparse.specs.Refusals.{Roomy}
-use Rattle.sparse.proofs.Buffers.{drop-zeroed, front_filled}
+use Rattle.sparse.specs.declared.Column.{Column}
+use Rattle.sparse.specs.declared.mat.Edit.{Edit}
+use Rattle.sparse.specs.declared.mat.SquareMat.{SquareMat}
+use Rattle.sparse.proofs.Buffers.{front_filled}
 use Rattle.matching.specs.Matching.{Verdict, accepted, refused}
 use Rattle.matching.specs.Outcome.{marks_of}
 use Rattle.matching.specs.Parts.{EndsAt, SameBeyond}
+use Rattle.matching.specs.Work.{Stays}
 use Rattle.matching.proofs.Ready.{short_or}
 use Rattle.blocks.specs.Cut.{HoldsBlocks}
 use Rattle.blocks.specs.Reverse.{entries, Reversible}
+use Rattle.rematching.specs.Checks.{Editable}
 use Rattle.rematching.specs.Rematching.{rematching}
-use Rattle.triangular.specs.Outcome.{Work, work, Outputs, outputs, Lent, lent, cleared, form_need, starts_need, work_buffers}
-use Rattle.triangular.specs.Outcome.{output_buffers, ended, unmatchable}
+use Rattle.std.proofs.lemmas.Option.{none-some}
+use Rattle.triangular.specs.Outcome.{Work, Outputs, outputs, Lent, lent, work_buffers}
+use Rattle.triangular.specs.Outcome.{output_buffers, buffers, ended, unmatchable}
 use Rattle.triangular.specs.Parts.{SameWork}
-use Rattle.triangular.specs.declared.form.BlockAnswer.{BlockAnswer}
-use Rattle.triangular.specs.declared.form.BlockAnswer.TheVariants.{Accepted}
 use Rattle.triangular.proofs.Room.{work_kept, roomy_split}
 use Rattle.triangular.proofs.Outcome.{Handed, handed_agree, hand_accepted}
-use Rattle.triangular.proofs.UnderMatching.{same_cleared}
-use Rattle.edit.specs.Outcome.{edit_entries, handed_out, Given}
+use Rattle.triangular.proofs.Work.{same_then}
+use Rattle.edit.specs.Outcome.{edit_entries, refused_outputs, handed_out, Given}
 use Rattle.edit.proofs.Outcome.{given_inside, decides}
 use Rattle.edit.proofs.EditedEntries.{replacement_few, entries_roomy, edited_once}
 
 -- ---- before the search
 
+-- a square matrix without repeats, an edit of it, and room
+pub given_edit : (mat : SquareMat) (edit : Edit) (l : Lent) → ((c : Col) → c < mat.mat.size → Once (columns mat.mat c))
+    → Editable mat.mat.size mat.mat.starts.now mat.mat.rows.now edit.column.0 edit.rows.now l.outer.row2col
+    → Roomy (buffers mat.mat.size (edit_entries mat.mat.size mat.mat.rows.now) l)
+    → Given mat.mat.size mat.mat.starts.now mat.mat.rows.now edit.column.0 edit.rows.now l
+given_edit mat edit l once editable room =
+    record { valid = record { shaped = mat.mat.shaped; below = mat.below; once = once }; editable = editable; room = room }
+
 -- ---- what the search hands on
 
--- where a search ends at the size there is a matching, it stands in the slice, and no column is marked
-ends_handed : {size r : ℕ} {m hall : List ℕ} (v : List ℕ) (o : Outputs) (verdict : Verdict) → EndsAt size v m r verdict → size ≤ r
-    → size ≤ length m → SameBeyond size o.row2col m → hall ≡ zeroed size o.hall → Handed size o verdict m hall
-ends_handed {size} {m = m} v o (accepted cols) E l long same z = record {
+-- where a search did not fail there is a matching, it stands in the slice, and no column is marked
+ends_handed : {size : ℕ} {r : Option Column} {m hall : List ℕ} (v : List ℕ) (o : Outputs) (verdict : Verdict)
+    → EndsAt size v m r verdict → r ≡ None → size ≤ length m → SameBeyond size o.row2col m → hall ≡ zeroed size o.hall
+    → Handed size o verdict m hall
+ends_handed {size} {r = None} {m = m} v o (accepted cols) E f long same z = record {
   cols = cols;
   verdict = refl;
-  filled_with = front_filled size cols o.row2col m long E.1 same;
+  filled_with = front_filled size cols o.row2col m long E same;
   unmarked = z;
 }
-ends_handed v o (refused c seen) E l long same z = absurd (omega (arith, E.0, E.1))
+ends_handed {r = None} v o (refused c seen) E f long same z = absurd E
+ends_handed {r = Some d} v o verdict E f long same z = absurd (none-some d (sym f))
 
--- where it ends before, the old matching stays, and the stamps tell the marks
-ends_refused : {size r : ℕ} {m hall cols ends : List ℕ} (col : Pattern) (w : Work) (v : List ℕ) (o : Outputs) (verdict : Verdict)
-    → EndsAt size v m r verdict → r < size → m ≡ o.row2col
-    → hall ≡ filled (table (λ d. bit (eqb (get_or v d 0) (r + 1))) size) o.hall → cols ≡ zeroed (form_need size) o.blockcols
-    → ends ≡ zeroed (starts_need size) o.blockstarts
-    → ended (unmatchable r) (lent w (outputs m hall cols ends)) ≡ handed_out size col w o verdict
+-- where it failed, the old matching stays, and the stamps tell the marks
+ends_refused : (size : ℕ) {m : List ℕ} (failed : Column) (col : Pattern) (w : Work) (v : List ℕ) (o : Outputs) (verdict : Verdict)
+    → EndsAt size v m (Some failed) verdict → m ≡ o.row2col
+    → ended (unmatchable failed.0) (lent w (refused_outputs size (table (λ d. bit (eqb (get_or v d 0) (failed.0 + 1))) size)
+    (record o { row2col = m }))) ≡ handed_out size col w o verdict
 unfolding marks_of
-ends_refused col w v o (accepted p) E l em eh ec es = absurd (omega (arith, E.0))
-ends_refused {size} {r} col w v o (refused c seen) E l em eh ec es =
-    let marks : table (λ d. bit (eqb (get_or v d 0) (r + 1))) size ≡ table (λ d. bit (elem d seen)) size =
+ends_refused size failed col w v o (accepted p) E em = absurd E
+ends_refused size failed col w v o (refused c seen) E em =
+    let marks : table (λ d. bit (eqb (get_or v d 0) (failed.0 + 1))) size ≡ table (λ d. bit (elem d seen)) size =
     table_ext _ _ size (λ d j. ap bit (ap (λ (x : ℕ). eqb (get_or v d 0) (x + 1)) E.0 ∙ E.2 d j)) in
-    rw (em, eh, ec, es, marks, E.0)
+    rw (em, marks, E.0)
 
 -- ---- the workspace
 
--- a slice cleared before it is changed is as it was beyond the need
-pub cleared_beyond : (n : ℕ) (u v w : List ℕ) → v ≡ zeroed n u → SameBeyond n v w → SameBeyond n u w
-cleared_beyond n u v w z e = e ∙ ap (drop n) z ∙ drop-zeroed n u
+-- what is not changed stays
+pub unchanged : {n : ℕ} {xs : List ℕ} → Stays n xs xs
+unchanged = record { same_length = refl; beyond = refl }
 
--- what is the same beyond k entries is the same beyond more
-pub same_more : {n k : ℕ} {w w' : Work} (j : ℕ) → k ≤ j → SameWork n k w w' → SameWork n j w w'
-same_more {k = k} {w = w} {w' = w'} j l S =
+-- where only stamps, cheap places and the row of each column change
+pub columns_same : {n k : ℕ} (w : Work) (v c r : List ℕ) → Stays n w.visited v → Stays n w.cheap c → Stays n w.col2row r
+    → SameWork n k w (record w { visited = v; cheap = c; col2row = r })
+columns_same w v c r V C R = record {
+  visited = V;
+  cheap = C;
+  finished = unchanged;
+  col2row = R;
+  backstarts = unchanged;
+  backrows = unchanged;
+  cols = unchanged;
+  places = unchanged;
+}
+
+-- a slice that stays beyond k stays beyond more
+stays_more : {k : ℕ} (j : ℕ) {xs ys : List ℕ} → k ≤ j → Stays k xs ys → Stays j xs ys
+stays_more {k} j {xs} {ys} l S =
     let z : k + (j - k) ≡ j = omega arith in
     record {
-      visited_beyond = S.visited_beyond;
-      cheap_beyond = S.cheap_beyond;
-      finished_beyond = S.finished_beyond;
-      col2row_beyond = S.col2row_beyond;
-      backstarts_beyond = S.backstarts_beyond;
-      backrows_beyond = ap (λ (x : ℕ). drop x w'.backrows) (sym z) ∙ sym (drop-drop (j - k) k w'.backrows)
-          ∙ ap (drop (j - k)) S.backrows_beyond ∙ drop-drop (j - k) k w.backrows ∙ ap (λ (x : ℕ). drop x w.backrows) z;
-      cols_beyond = S.cols_beyond;
-      places_beyond = S.places_beyond;
+      same_length = S.same_length;
+      beyond = ap (λ (x : ℕ). drop x ys) (sym z) ∙ sym (drop-drop (j - k) k ys) ∙ ap (drop (j - k)) S.beyond ∙ drop-drop (j - k) k xs
+          ∙ ap (λ (x : ℕ). drop x xs) z;
     }
+
+-- what stays for k entries stays for more
+same_more : {n k : ℕ} {w w' : Work} (j : ℕ) → k ≤ j → SameWork n k w w' → SameWork n j w w'
+same_more j l S = record {
+  visited = S.visited;
+  cheap = S.cheap;
+  finished = S.finished;
+  col2row = S.col2row;
+  backstarts = S.backstarts;
+  backrows = stays_more j l S.backrows;
+  cols = S.cols;
+  places = S.places;
+}
 
 -- room for some entries is room for fewer
 fewer_room : {n k : ℕ} (j : ℕ) (w : Work) → k ≤ j → Roomy (work_buffers n j w) → Roomy (work_buffers n k w)
@@ -87,36 +123,35 @@ fewer_room j w l R =
 
 -- ---- after the search
 
--- an edit whose search returned r, and left v and c as stamps and cheap places, s and t as the stack, and m as the matching
-pub record Searched (size : ℕ) (starts : List ℕ) (rows : List Row) (e : Col) (new : List Row) (l : Lent) (r : ℕ)
-    (v c s t m : List ℕ) : Type 0 where
+-- an edit whose search returned r, and left v as stamps and m as the matching
+pub record Searched (size : ℕ) (starts : List ℕ) (rows : List Row) (e : Col) (new : List Row) (l : Lent) (r : Option Column)
+    (v m : List ℕ) : Type 0 where
   pub given : Given size starts rows e new l
   pub ends : EndsAt size v m r (rematching size (column_or starts rows e new) (take size l.outer.row2col) e)
-  pub kept : r < size → m ≡ l.outer.row2col
+  pub kept : IsSome r → m ≡ l.outer.row2col
   pub matching : SameBeyond size l.outer.row2col m
-  pub visited : SameBeyond size l.inner.visited v
-  pub cheap : SameBeyond size l.inner.cheap c
-  pub cols : SameBeyond size l.inner.scol s
-  pub places : SameBeyond size l.inner.sat t
   pub matching_length : length m ≡ length l.outer.row2col
-  pub visited_length : length v ≡ length l.inner.visited
-  pub cheap_length : length c ≡ length l.inner.cheap
-  pub cols_length : length s ≡ length l.inner.scol
-  pub places_length : length t ≡ length l.inner.sat
 
-module _ {size : ℕ} {starts : List ℕ} {rows : List Row} {e : Col} {new : List Row} {l : Lent} {r : ℕ} {v c s t m : List ℕ}
-    (S : Searched size starts rows e new l r v c s t m) where
+pub searched : {size : ℕ} {starts : List ℕ} {rows : List Row} {e : Col} {new : List Row} {l : Lent} {r : Option Column}
+    {v m : List ℕ} → Given size starts rows e new l
+    → EndsAt size v m r (rematching size (column_or starts rows e new) (take size l.outer.row2col) e)
+    → (IsSome r → m ≡ l.outer.row2col) → SameBeyond size l.outer.row2col m → length m ≡ length l.outer.row2col
+    → Searched size starts rows e new l r v m
+searched G E k M n = record { given = G; ends = E; kept = k; matching = M; matching_length = n }
+
+module _ {size : ℕ} {starts : List ℕ} {rows : List Row} {e : Col} {new : List Row} {l : Lent} {r : Option Column} {v m : List ℕ}
+    (S : Searched size starts rows e new l r v m) where
   -- the matching is as long as the size
   long : size ≤ length m
   long = omega (arith, S.matching_length, S.given.room.1.1.1.1.1.1.1.1.0)
 
-  -- it ended at the size: the verdict's matching is handed on
-  handed : {hall : List ℕ} → size ≤ r → hall ≡ zeroed size l.outer.hall
+  -- it did not fail: the verdict's matching is handed on
+  handed : {hall : List ℕ} → r ≡ None → hall ≡ zeroed size l.outer.hall
       → Handed size l.outer (rematching size (column_or starts rows e new) (take size l.outer.row2col) e) m hall
   handed k z = ends_handed v l.outer _ S.ends k long S.matching z
 
   -- under it the graph of the edited matrix can be reversed
-  pub searched_reversible : size ≤ r → Reversible size (column_or starts rows e new) m
+  pub searched_reversible : r ≡ None → Reversible size (column_or starts rows e new) m
   searched_reversible k =
       let H = handed k refl in
       let D = decides S.given in
@@ -131,20 +166,11 @@ module _ {size : ℕ} {starts : List ℕ} {rows : List Row} {e : Col} {new : Lis
         matching_long = long;
       }
 
-  -- the workspace has room for the edited matrix
-  pub searched_room : Roomy (work_buffers size (entries size (column_or starts rows e new)) (work v c l.inner.finished
-      l.inner.col2row l.inner.backstarts l.inner.backrows s t))
-  searched_room =
-      work_kept size (entries size (column_or starts rows e new)) l.inner (work v c l.inner.finished l.inner.col2row
-      l.inner.backstarts l.inner.backrows s t) S.visited_length S.cheap_length refl refl refl refl S.cols_length
-      S.places_length (fewer_room (edit_entries size rows) l.inner (entries_roomy S.given.valid.shaped S.given.editable)
-      (roomy_split (work_buffers size (edit_entries size rows) l.inner) (output_buffers size l.outer) S.given.room).0)
-
   -- accepted: the blocks cut are handed out
-  pub searched_accepted : {hall cols ends : List ℕ} {k : ℕ} → size ≤ r → hall ≡ zeroed size l.outer.hall
+  pub searched_accepted : {hall cols ends : List ℕ} {k : ℕ} → r ≡ None → hall ≡ zeroed size l.outer.hall
       → HoldsBlocks size (blocks size (targets (column_or starts rows e new) m)) l.outer.blockcols
       l.outer.blockstarts cols ends k
-      → (w : Work) → ended (Accepted k) (lent w (outputs m hall cols ends)) ≡ handed_out size (column_or starts rows e new) w l.outer
+      → (w : Work) → ended (Ok k) (lent w (outputs m hall cols ends)) ≡ handed_out size (column_or starts rows e new) w l.outer
       (rematching size (column_or starts rows e new) (take size l.outer.row2col) e)
   searched_accepted j z B w =
       let H = handed j z in
@@ -152,39 +178,23 @@ module _ {size : ℕ} {starts : List ℕ} {rows : List Row} {e : Col} {new : Lis
       ∙ rw H.verdict
 
   -- refused: the old matching, the marks and no blocks are handed out
-  pub searched_refused : {hall cols ends : List ℕ} {answer : BlockAnswer} → r < size → answer ≡ unmatchable r
-      → hall ≡ filled (table (λ d. bit (eqb (get_or v d 0) (r + 1))) size) l.outer.hall
-      → cols ≡ zeroed (form_need size) l.outer.blockcols → ends ≡ zeroed (starts_need size) l.outer.blockstarts
-      → (w : Work) → ended answer (lent w (outputs m hall cols ends)) ≡ handed_out size (column_or starts rows e new) w l.outer
+  pub searched_refused : {failed : Column} {stamps : List ℕ} → r ≡ Some failed → stamps ≡ v → (w : Work)
+      → ended (unmatchable failed.0) (lent w (refused_outputs size (table (λ d. bit (eqb (get_or stamps d 0) (failed.0 + 1))) size)
+      (record l.outer { row2col = m }))) ≡ handed_out size (column_or starts rows e new) w l.outer
       (rematching size (column_or starts rows e new) (take size l.outer.row2col) e)
-  searched_refused k a eh ec es w =
-      rw a (ends_refused (column_or starts rows e new) w v l.outer
-      (rematching size (column_or starts rows e new) (take size l.outer.row2col) e) S.ends k (S.kept k) eh ec es)
+  searched_refused {failed} f z w =
+      rw z (ends_refused size failed (column_or starts rows e new) w v l.outer
+      (rematching size (column_or starts rows e new) (take size l.outer.row2col) e) (rw f at S.ends) (S.kept (ap is_some f)))
 
-  -- the search changed four slices of the workspace, below the need
-  same : SameWork size (edit_entries size rows) l.inner (work v c l.inner.finished l.inner.col2row
-      l.inner.backstarts l.inner.backrows s t)
-  same = record {
-    visited_beyond = S.visited;
-    cheap_beyond = S.cheap;
-    finished_beyond = refl;
-    col2row_beyond = refl;
-    backstarts_beyond = refl;
-    backrows_beyond = refl;
-    cols_beyond = S.cols;
-    places_beyond = S.places;
-  }
+module _ {size : ℕ} {starts : List ℕ} {rows : List Row} {e : Col} {new : List Row} {l : Lent} {w : Work}
+    (G : Given size starts rows e new l) (S : SameWork size (edit_entries size rows) l.inner w) where
+  -- a workspace that stays has room for the edited matrix
+  pub edited_room : Roomy (work_buffers size (entries size (column_or starts rows e new)) w)
+  edited_room =
+      work_kept size _ l.inner w S (fewer_room (edit_entries size rows) l.inner (entries_roomy G.valid.shaped G.editable)
+      (roomy_split (work_buffers size (edit_entries size rows) l.inner) (output_buffers size l.outer) G.room).0)
 
-  -- so it is cleared to what it would have been
-  pub searched_cleared : cleared size (edit_entries size rows) (work v c l.inner.finished l.inner.col2row
-      l.inner.backstarts l.inner.backrows s t) ≡ cleared size (edit_entries size rows) l.inner
-  searched_cleared = same_cleared size (edit_entries size rows) l.inner _ same
-
-  -- also after the passes, which need no more than there is room for
-  pub passed_cleared : {x : Work} → SameWork size (entries size (column_or starts rows e new)) (work v c l.inner.finished
-      l.inner.col2row l.inner.backstarts l.inner.backrows s t) x
-      → cleared size (edit_entries size rows) x ≡ cleared size (edit_entries size rows) l.inner
-  passed_cleared A =
-      same_cleared size (edit_entries size rows) _ _
-      (same_more (edit_entries size rows) (entries_roomy S.given.valid.shaped S.given.editable) A)
-      ∙ searched_cleared
+  -- and stays over the passes, which need no more than there is room for
+  pub passed_same : {x : Work} → SameWork size (entries size (column_or starts rows e new)) w x
+      → SameWork size (edit_entries size rows) l.inner x
+  passed_same A = same_then S (same_more (edit_entries size rows) (entries_roomy G.valid.shaped G.editable) A)

@@ -1,9 +1,11 @@
 -- The edit's samples: P7 to P9, a longer path, a larger Hall set, and a refusal of each kind, each over buffers that hold junk.
-use Rattle.std.specs.Prelude.{ℕ, ◌+◌, List, [], ◌∷◌, ◌++◌, replicate}
+use Rattle.std.specs.Prelude.{ℕ, ◌+◌, List, [], ◌∷◌, ◌++◌, Ok, Err, replicate}
 use Rattle.graph.specs.Matchings.{Row, Col}
-use Rattle.triangular.specs.Outcome.{Work, work, Outputs, outputs, Lent, lent, Outcome, ended}
-use Rattle.triangular.specs.declared.form.BlockAnswer.{BlockAnswer}
-use Rattle.triangular.specs.declared.form.BlockAnswer.TheVariants.{Accepted, Refused}
+use Rattle.sparse.specs.Refusals.{as_row}
+use Rattle.sparse.specs.declared.refusal.Refusal.{Refusal}
+use Rattle.sparse.specs.declared.refusal.Refusal.TheVariants.{TooLarge, Misshapen, RowOutside, RepeatedRow, NoRoom}
+use Rattle.sparse.specs.declared.refusal.Refusal.TheVariants.{ColumnOutside, UnfitRow, MismatchedRow}
+use Rattle.triangular.specs.Outcome.{Work, work, Outputs, outputs, Lent, lent, BlockAnswer, Outcome, ended, unmatchable}
 
 -- a matrix, a column and what replaces it, the buffers lent, and what comes of it
 pub record EditSample : Type 0 where
@@ -19,10 +21,6 @@ pub record EditSample : Type 0 where
 abbrev sample : ℕ → List ℕ → List Row → Col → List Row → Lent → Outcome → EditSample
 sample size starts rows edited new before gives =
     record { size = size; starts = starts; rows = rows; edited = edited; new = new; before = before; gives = gives }
-
--- the refusal of a number, at a place
-abbrev refused : ℕ → ℕ → BlockAnswer
-refused number place = Refused (record { number = number; place = place })
 
 -- two numbers
 abbrev two : ℕ → ℕ → List ℕ
@@ -81,8 +79,8 @@ cyclic_edited e new row2col answer o =
     sample 3 (four 0 1 3 5) (1 ∷ 2 ∷ 0 ∷ 0 ∷ 1 ∷ []) e new (wide (holding row2col)) (ended answer (clean o))
 
 -- and where it is refused with every output as it was
-abbrev cyclic_refused : Col → List Row → List Col → ℕ → ℕ → EditSample
-cyclic_refused e new row2col number place = cyclic_edited e new row2col (refused number place) (holding row2col)
+abbrev cyclic_refused : Col → List Row → List Col → Refusal → EditSample
+cyclic_refused e new row2col r = cyclic_edited e new row2col (Err r) (holding row2col)
 
 -- ---- the others
 
@@ -103,23 +101,23 @@ faulty starts rows before gives = sample 3 starts rows 3 (two 3 3) before gives
 -- and for one that lacks the row in the old matrix, though not in the edited one
 abbrev pub edit_samples : List EditSample
 edit_samples =
-    full_edited (0 ∷ []) (ended (Accepted 2) (left (two 1 0) (two 0 0) (two 0 1) (three 0 1 2)))
-    ∷ full_edited (1 ∷ []) (ended (Accepted 2) (left (two 0 1) (two 0 0) (two 0 1) (three 0 1 2)))
-    ∷ full_edited [] (ended (refused 9 1) (left (two 0 1) (two 0 1) (two 0 0) (three 0 0 0)))
-    ∷ cyclic_edited 0 (two 2 0) (three 2 0 1) (Accepted 2) (written (three 1 2 0) (three 0 0 0) (three 2 0 1) (four 0 1 3 0))
-    ∷ cyclic_edited 1 (1 ∷ []) (three 2 0 1) (refused 9 1) (written (three 2 0 1) (three 1 1 0) (three 0 0 0) (four 0 0 0 0))
-    ∷ sample 4097 [] [] 0 [] (least 7) (ended (refused 1 0) (least 7))
-    ∷ faulty (four 0 1 3 6) (1 ∷ 2 ∷ 0 ∷ 0 ∷ 9 ∷ []) short (ended (refused 2 0) short)
-    ∷ faulty (four 0 1 3 5) (1 ∷ 2 ∷ 0 ∷ 0 ∷ 9 ∷ []) short (ended (refused 5 0) short)
+    full_edited (0 ∷ []) (ended (Ok 2) (left (two 1 0) (two 0 0) (two 0 1) (three 0 1 2)))
+    ∷ full_edited (1 ∷ []) (ended (Ok 2) (left (two 0 1) (two 0 0) (two 0 1) (three 0 1 2)))
+    ∷ full_edited [] (ended (unmatchable 1) (left (two 0 1) (two 0 1) (two 0 0) (three 0 0 0)))
+    ∷ cyclic_edited 0 (two 2 0) (three 2 0 1) (Ok 2) (written (three 1 2 0) (three 0 0 0) (three 2 0 1) (four 0 1 3 0))
+    ∷ cyclic_edited 1 (1 ∷ []) (three 2 0 1) (unmatchable 1) (written (three 2 0 1) (three 1 1 0) (three 0 0 0) (four 0 0 0 0))
+    ∷ sample 4097 [] [] 0 [] (least 7) (ended (Err TooLarge) (least 7))
+    ∷ faulty (four 0 1 3 6) (1 ∷ 2 ∷ 0 ∷ 0 ∷ 9 ∷ []) short (ended (Err Misshapen) short)
+    ∷ faulty (four 0 1 3 5) (1 ∷ 2 ∷ 0 ∷ 0 ∷ 9 ∷ []) short (ended (Err NoRoom) short)
     ∷ faulty (four 0 1 3 5) (1 ∷ 2 ∷ 2 ∷ 0 ∷ 3 ∷ []) (wide (holding (three 2 0 1)))
-    (ended (refused 3 4) (wide (holding (three 2 0 1))))
+    (ended (Err (RowOutside 4)) (wide (holding (three 2 0 1))))
     ∷ faulty (four 0 1 3 5) (1 ∷ 2 ∷ 2 ∷ 0 ∷ 1 ∷ []) (wide (holding (three 2 2 1)))
-    (ended (refused 4 2) (clean (holding (three 2 2 1))))
-    ∷ sample 0 (0 ∷ []) [] 0 [] (least 7) (ended (refused 13 0) (least 0))
-    ∷ cyclic_refused 3 (two 3 3) (three 0 0 0) 13 0
-    ∷ cyclic_refused 2 (three 0 3 0) (three 0 0 0) 14 1
-    ∷ cyclic_refused 2 (three 0 2 0) (three 0 0 0) 14 2
-    ∷ cyclic_refused 1 (two 2 0) (three 2 0 3) 15 2
-    ∷ cyclic_refused 1 (two 2 0) (three 2 2 1) 15 1
-    ∷ cyclic_refused 0 (0 ∷ []) (three 0 2 1) 15 0
+    (ended (Err (RepeatedRow 2)) (clean (holding (three 2 2 1))))
+    ∷ sample 0 (0 ∷ []) [] 0 [] (least 7) (ended (Err ColumnOutside) (least 0))
+    ∷ cyclic_refused 3 (two 3 3) (three 0 0 0) ColumnOutside
+    ∷ cyclic_refused 2 (three 0 3 0) (three 0 0 0) (UnfitRow 1)
+    ∷ cyclic_refused 2 (three 0 2 0) (three 0 0 0) (UnfitRow 2)
+    ∷ cyclic_refused 1 (two 2 0) (three 2 0 3) (MismatchedRow (as_row 2))
+    ∷ cyclic_refused 1 (two 2 0) (three 2 2 1) (MismatchedRow (as_row 1))
+    ∷ cyclic_refused 0 (0 ∷ []) (three 0 2 1) (MismatchedRow (as_row 0))
     ∷ []

@@ -1,170 +1,67 @@
 // The entry of the edit.
 ghost use Rattle.std.specs.Prelude.{◌≡◌};
-ghost use Rattle.sparse.specs.Matrix.{Shaped, RowsBelow};
 ghost use Rattle.sparse.specs.Refusals.{Roomy};
-ghost use Rattle.triangular.specs.Outcome.{Work, work, outputs, lent, buffers, cleared, ended};
+ghost use Rattle.triangular.specs.Outcome.{Work, lent, buffers, held_work, holding_work, held_outputs, holding_outputs, held, ended};
+ghost use Rattle.triangular.specs.Parts.{SameWork};
 ghost use Rattle.edit.specs.Outcome.{edit_entries, replaced, outcome, Means};
 
 use super::valid::edit_valid;
 use rematching::checks::check_edit;
 use sparse::checks::check_early;
 use sparse::slices::clear;
-use sparse::{Checked, Column};
-use triangular::BlockAnswer;
+use sparse::{Column, Edit, Refusal, SquareMat};
 use triangular::form::{clear_work, lacks_room};
+use triangular::{FormOutputs, FormWork};
 
 // The edit of a matrix that refusals 1, 2, 5 and 3 let through. What the workspace holds afterwards is the caller's to clear.
-fn edit_tested<'a>(
-    size: u32,
-    starts: &[u32],
-    rows: &'a [u32],
-    edited: Column,
-    replacement: &'a [u32],
-    visited: &mut [u32],
-    cheap: &mut [u32],
-    finished: &mut [u32],
-    col2row: &mut [u32],
-    backstarts: &mut [u32],
-    backrows: &mut [u32],
-    scol: &mut [u32],
-    sat: &mut [u32],
-    row2col: &mut [u32],
-    hall: &mut [u32],
-    blockcols: &mut [u32],
-    blockstarts: &mut [u32],
-) -> BlockAnswer
-    requires shaped { Shaped size starts.now rows.now × RowsBelow rows.now size }
-    requires roomy { Roomy (buffers size (edit_entries size rows.now) (lent (work visited.old cheap.old finished.old col2row.old
-        backstarts.old backrows.old scol.old sat.old) (outputs row2col.old hall.old blockcols.old blockstarts.old))) }
-    ensures blockstarts_after { (w : Work) → ended result (lent w (outputs row2col.new hall.new blockcols.new
-        blockstarts.new)) ≡ replaced size starts.now rows.now edited.0 replacement.now w
-        (outputs row2col.old hall.old blockcols.old blockstarts.old) }
-    ensures sat_unchanged { cleared size (edit_entries size rows.now) (work visited.new cheap.new
-        finished.new col2row.new backstarts.new backrows.new scol.new sat.new)
-        ≡ cleared size (edit_entries size rows.now) (work visited.old cheap.old finished.old
-        col2row.old backstarts.old backrows.old scol.old sat.old) }
+fn edit_tested(
+    mat: &SquareMat,
+    edit: &Edit,
+    work: &mut FormWork,
+    outputs: &mut FormOutputs,
+) -> Result<u32, Refusal>
+    requires { Roomy (buffers mat.now.mat.size (edit_entries mat.now.mat.size mat.now.mat.rows.now) (held work.old outputs.old)) }
+    ensures outputs_after { (w : Work) → ended result (lent w (held_outputs outputs.new))
+        ≡ replaced mat.now.mat.size mat.now.mat.starts.now mat.now.mat.rows.now edit.now.column.0 edit.now.rows.now w
+        (held_outputs outputs.old) }
+    ensures same_work { SameWork mat.now.mat.size (edit_entries mat.now.mat.size mat.now.mat.rows.now) (held_work work.old)
+        (held_work work.new) }
+    ensures same_slices { (work.new ≡ holding_work work.old (held_work work.new))
+        × (outputs.new ≡ holding_outputs outputs.old (held_outputs outputs.new)) }
 {
-    clear(visited, size);
-    let checked = check_edit(
-        size,
-        starts,
-        rows,
-        edited,
-        replacement,
-        row2col,
-        visited,
-        col2row,
-    );
-    if let Checked::Refused(r) = checked {
-        return BlockAnswer::Refused(r);
-    }
-    edit_valid(
-        size,
-        starts,
-        rows,
-        edited,
-        replacement,
-        visited,
-        cheap,
-        finished,
-        col2row,
-        backstarts,
-        backrows,
-        scol,
-        sat,
-        row2col,
-        hall,
-        blockcols,
-        blockstarts,
-    )
+    // What is only read has a name of its own, so that what it holds stays known to the proof.
+    let row2col = &mut *outputs.row2col;
+    clear(work.visited, mat.mat.size);
+    check_edit(mat, edit, row2col, work.visited, work.col2row)?;
+    edit_valid(mat, edit, work, outputs)
 }
 
 // One column of a matrix replaced: the old matching, lent in row2col, becomes one of the edited matrix, along one path, and the blocks
 // follow; or the first refusal of the table, 9 with the marks of a Hall set and the old matching as it was.
-pub fn edit_column<'a>(
+pub fn edit_column(
     size: u32,
     starts: &[u32],
-    rows: &'a [u32],
+    rows: &[u32],
     edited: Column,
-    replacement: &'a [u32],
-    visited: &mut [u32],
-    cheap: &mut [u32],
-    finished: &mut [u32],
-    col2row: &mut [u32],
-    backstarts: &mut [u32],
-    backrows: &mut [u32],
-    scol: &mut [u32],
-    sat: &mut [u32],
-    row2col: &mut [u32],
-    hall: &mut [u32],
-    blockcols: &mut [u32],
-    blockstarts: &mut [u32],
-) -> BlockAnswer
-    ensures outcome { ended result (lent (work visited.new cheap.new finished.new col2row.new
-        backstarts.new backrows.new scol.new sat.new) (outputs row2col.new
-        hall.new blockcols.new blockstarts.new))
-        ≡ outcome size starts.now rows.now edited.0 replacement.now (lent (work visited.old
-        cheap.old finished.old col2row.old backstarts.old backrows.old
-        scol.old sat.old) (outputs row2col.old hall.old blockcols.old
-        blockstarts.old)) }
-    ensures meaning { Means size starts.now rows.now edited.0 replacement.now (lent (work
-        visited.old cheap.old finished.old col2row.old backstarts.old
-        backrows.old scol.old sat.old) (outputs row2col.old hall.old
-        blockcols.old blockstarts.old))
-        (lent (work visited.new cheap.new finished.new col2row.new backstarts.new
-        backrows.new scol.new sat.new) (outputs row2col.new hall.new
-        blockcols.new blockstarts.new)) result }
+    replacement: &[u32],
+    work: &mut FormWork,
+    outputs: &mut FormOutputs,
+) -> Result<u32, Refusal>
+    ensures outcome { ended result (held work.new outputs.new)
+        ≡ outcome size starts.now rows.now edited.0 replacement.now (held work.old outputs.old) }
+    ensures meaning { Means size starts.now rows.now edited.0 replacement.now (held work.old outputs.old)
+        (held work.new outputs.new) result }
+    ensures same_slices { (work.new ≡ holding_work work.old (held_work work.new))
+        × (outputs.new ≡ holding_outputs outputs.old (held_outputs outputs.new)) }
 {
-    let few = backrows.len() < rows.len() + size as usize;
-    let short = lacks_room(
-        size,
-        few,
-        visited,
-        cheap,
-        finished,
-        col2row,
-        backstarts,
-        scol,
-        sat,
-        row2col,
-        hall,
-        blockcols,
-        blockstarts,
-    );
-    let first = check_early(size, starts, rows, short);
-    if let Checked::Refused(r) = first {
-        return BlockAnswer::Refused(r);
-    }
-    let answer = edit_tested(
-        size,
-        starts,
-        rows,
-        edited,
-        replacement,
-        visited,
-        cheap,
-        finished,
-        col2row,
-        backstarts,
-        backrows,
-        scol,
-        sat,
-        row2col,
-        hall,
-        blockcols,
-        blockstarts,
-    );
-    clear_work(
-        size,
-        rows.len() as u32 + size,
-        visited,
-        cheap,
-        finished,
-        col2row,
-        backstarts,
-        backrows,
-        scol,
-        sat,
-    );
+    let few = work.backrows.len() < rows.len() + size as usize;
+    let short = lacks_room(size, few, work, outputs);
+    let mat = check_early(size, starts, rows, short)?;
+    let edit = Edit {
+        column: edited,
+        rows: replacement,
+    };
+    let answer = edit_tested(&mat, &edit, work, outputs);
+    clear_work(size, rows.len() as u32 + size, work);
     answer
 }

@@ -1,120 +1,91 @@
 // An edit that every check let through: one search, and the blocks under the matching it leaves.
-ghost use Rattle.std.specs.Prelude.{◌≡◌, List, ◌+◌, ◌≤◌, ◌<◌, eqb, length, get_or, take};
+ghost use Rattle.std.specs.Prelude.{◌≡◌, ℕ, ◌+◌, ◌≤◌, ◌<◌, eqb, length, get_or, take};
 ghost use Rattle.graph.specs.Counting.{bit};
-ghost use Rattle.graph.specs.Lists.{table};
-ghost use Rattle.graph.specs.Edits.{former};
-ghost use Rattle.sparse.specs.Buffers.{zeroed, filled};
+ghost use Rattle.graph.specs.Edits.{edited, former};
+ghost use Rattle.graph.specs.Lists.{Once, table};
+ghost use Rattle.sparse.specs.Columns.{columns};
 ghost use Rattle.sparse.specs.Limits.{max_size};
-ghost use Rattle.sparse.specs.Matrix.{column_or};
+ghost use Rattle.sparse.specs.Refusals.{Roomy};
+ghost use Rattle.rematching.specs.Checks.{Editable};
 ghost use Rattle.rematching.specs.Rematching.{rematching};
-ghost use Rattle.triangular.specs.Outcome.{Work, work, outputs, lent, cleared, form_need, starts_need, ended, unmatchable};
-ghost use Rattle.edit.specs.Outcome.{edit_entries, handed_out, Given};
+ghost use Rattle.triangular.specs.Outcome.{Work, lent, buffers, held_work, holding_work, held_outputs, holding_outputs, held};
+ghost use Rattle.triangular.specs.Outcome.{form_need, starts_need, ended, unmatchable};
+ghost use Rattle.triangular.specs.Parts.{SameWork};
+ghost use Rattle.edit.specs.Outcome.{edit_entries, refused_outputs, handed_out};
 
+use matching::SearchWork;
 use matching::diagonal::mark_hall;
 use rematching::rematch::rematch;
-use sparse::slices::{by_column, clear};
-use sparse::{Column, OriginalRow, Refusal};
-use triangular::BlockAnswer;
+use sparse::slices::{clear, get};
+use sparse::{Column, Edit, EditedMat, OriginalRow, Refusal, SquareMat};
 use triangular::form::clear_blocks;
 use triangular::matched::block_matched;
+use triangular::{FormOutputs, FormWork};
 
 // Refusal 9 at a column: the columns with its stamp are marked, and there are no blocks.
 fn refuse_edit(
     size: u32,
-    c: u32,
-    visited: &[u32],
-    hall: &mut [u32],
-    blockcols: &mut [u32],
-    blockstarts: &mut [u32],
-) -> BlockAnswer
-    requires size_le_max_size { (size ≤ max_size) × (c < size) × (size ≤ length visited.now) × (size ≤ length hall.old) }
-    requires size_in_bounds { (form_need size ≤ length blockcols.old) × (starts_need size ≤ length blockstarts.old) }
-    ensures value { result ≡ unmatchable c }
-    ensures hall_after { hall.new ≡ filled (table (λ d. bit (eqb (get_or visited.now d 0) (c + 1))) size)
-        hall.old }
-    ensures blockcols_after { (blockcols.new ≡ zeroed (form_need size) blockcols.old)
-        × (blockstarts.new ≡ zeroed (starts_need size) blockstarts.old) }
+    c: Column,
+    work: &FormWork,
+    outputs: &mut FormOutputs,
+) -> Result<u32, Refusal>
+    requires size_le_max_size { (size ≤ max_size) × (c.0 < size) }
+    requires size_in_bounds { (size ≤ length work.now.visited.now) × (size ≤ length outputs.old.hall.now)
+        × (form_need size ≤ length outputs.old.blockcols.now) × (starts_need size ≤ length outputs.old.blockstarts.now) }
+    ensures value { result ≡ unmatchable c.0 }
+    ensures outputs_after { outputs.new ≡ holding_outputs outputs.old (refused_outputs size
+        (table (λ d. bit (eqb (get_or work.now.visited.now d 0) (c.0 + 1))) size) (held_outputs outputs.old)) }
 {
-    mark_hall(size, visited, c + 1, hall);
-    clear_blocks(size, blockcols, blockstarts);
-    BlockAnswer::Refused(Refusal {
-        number: 9,
-        place: c,
-    })
+    mark_hall(size, work.visited, c.0 + 1, outputs.hall);
+    clear_blocks(size, outputs);
+    Err(Refusal::Unmatchable(c))
 }
 
 // The edit of a valid matrix, where the row of the edited column stands in col2row. What the workspace holds afterwards is the caller's
 // to clear.
-pub fn edit_valid<'a>(
-    size: u32,
-    starts: &[u32],
-    rows: &'a [u32],
-    edited: Column,
-    replacement: &'a [u32],
-    visited: &mut [u32],
-    cheap: &mut [u32],
-    finished: &mut [u32],
-    col2row: &mut [u32],
-    backstarts: &mut [u32],
-    backrows: &mut [u32],
-    scol: &mut [u32],
-    sat: &mut [u32],
-    row2col: &mut [u32],
-    hall: &mut [u32],
-    blockcols: &mut [u32],
-    blockstarts: &mut [u32],
-) -> BlockAnswer
-    requires given { Given size starts.now rows.now edited.0 replacement.now (lent (work visited.old cheap.old finished.old
-        col2row.old backstarts.old backrows.old scol.old sat.old) (outputs row2col.old hall.old blockcols.old
-        blockstarts.old)) }
-    requires edited_value { get_or col2row.old edited.0 0 ≡ former size row2col.old edited.0 }
-    ensures blockstarts_after { (w : Work) → ended result (lent w (outputs row2col.new hall.new blockcols.new
-        blockstarts.new)) ≡ handed_out size (column_or starts.now rows.now edited.0
-        replacement.now) w (outputs row2col.old hall.old blockcols.old
-        blockstarts.old) (rematching size (column_or starts.now rows.now edited.0
-        replacement.now) (take size row2col.old) edited.0) }
-    ensures sat_unchanged { cleared size (edit_entries size rows.now) (work visited.new cheap.new
-        finished.new col2row.new backstarts.new backrows.new scol.new
-        sat.new) ≡ cleared size (edit_entries size rows.now) (work visited.old cheap.old
-        finished.old col2row.old backstarts.old backrows.old scol.old sat.old) }
+pub fn edit_valid(
+    mat: &SquareMat,
+    edit: &Edit,
+    work: &mut FormWork,
+    outputs: &mut FormOutputs,
+) -> Result<u32, Refusal>
+    requires once { (c : ℕ) → c < mat.now.mat.size → Once (columns mat.now.mat c) }
+    requires editable { Editable mat.now.mat.size mat.now.mat.starts.now mat.now.mat.rows.now edit.now.column.0 edit.now.rows.now
+        outputs.old.row2col.now }
+    requires roomy { Roomy (buffers mat.now.mat.size (edit_entries mat.now.mat.size mat.now.mat.rows.now)
+        (held work.old outputs.old)) }
+    requires edited_value { get_or work.old.col2row.now edit.now.column.0 0
+        ≡ former mat.now.mat.size outputs.old.row2col.now edit.now.column.0 }
+    ensures outputs_after { (w : Work) → ended result (lent w (held_outputs outputs.new))
+        ≡ handed_out mat.now.mat.size (edited (columns mat.now.mat) edit.now.column.0 edit.now.rows.now) w
+        (held_outputs outputs.old) (rematching mat.now.mat.size (edited (columns mat.now.mat) edit.now.column.0 edit.now.rows.now)
+        (take mat.now.mat.size outputs.old.row2col.now) edit.now.column.0) }
+    ensures same_work { SameWork mat.now.mat.size (edit_entries mat.now.mat.size mat.now.mat.rows.now) (held_work work.old)
+        (held_work work.new) }
+    ensures same_slices { (work.new ≡ holding_work work.old (held_work work.new))
+        × (outputs.new ≡ holding_outputs outputs.old (held_outputs outputs.new)) }
 {
-    clear(visited, size);
-    clear(cheap, size);
-    let row = OriginalRow(by_column(col2row, edited));
-    let end = rematch(
-        size,
-        starts,
-        rows,
-        edited,
-        replacement,
-        row,
-        visited,
-        cheap,
-        scol,
-        sat,
-        row2col,
-    );
-    if end < size {
-        return refuse_edit(size, end, visited, hall, blockcols, blockstarts);
+    let size = mat.mat.size;
+    clear(work.visited, size);
+    clear(work.cheap, size);
+    // What is only read has a name of its own, so that what it holds stays known to the proof.
+    let col2row = &mut *work.col2row;
+    let row: OriginalRow = get(col2row, edit.column);
+    let mut slices = SearchWork {
+        visited: &mut *work.visited,
+        cheap: &mut *work.cheap,
+        scol: &mut *work.scol,
+        sat: &mut *work.sat,
+    };
+    let failed = rematch(mat, edit, row, &mut slices, outputs.row2col);
+    if let Some(c) = failed {
+        return refuse_edit(size, c, work, outputs);
     }
-    clear(hall, size);
-    let count = block_matched(
-        size,
-        starts,
-        rows,
-        Column(edited.0),
-        replacement,
-        row2col,
-        visited,
-        cheap,
-        finished,
-        col2row,
-        backstarts,
-        backrows,
-        scol,
-        sat,
-        blockcols,
-        blockstarts,
-    );
-    BlockAnswer::Accepted(count)
+    clear(outputs.hall, size);
+    let edited = EditedMat {
+        mat: mat.mat,
+        edit: Some(*edit),
+    };
+    let count = block_matched(&edited, work, outputs);
+    Ok(count)
 }

@@ -1,110 +1,52 @@
 -- `edit_column` meets its contract: a refusal of the early checks, or what is replaced with the workspace cleared, is the outcome.
-use Rattle.std.proofs.Common.{arith, ◌≡◌, refl, sym, ◌∙◌, List}
-use Rattle.sparse.specs.Refusals.{Buffer, first_refusal, early}
-use Rattle.sparse.specs.declared.Checked.TheVariants as checked
-use Rattle.sparse.specs.declared.Checked.{Checked}
-use Rattle.sparse.proofs.Early.{Early, early_passed}
+use Rattle.std.proofs.Common.{rules, Err, refl, sym, ap, ◌∙◌}
+use Rattle.std.proofs.lemmas.Result.{err_from_is_err_and}
+use Rattle.sparse.specs.Refusals.{checked}
+use Rattle.sparse.proofs.Early.{early_passed}
 use Rattle.edit.specs.Outcome.{edit_entries}
-use Rattle.triangular.specs.Outcome.{Lent, work, outputs, lent, buffers, work_buffers, output_buffers}
+use Rattle.triangular.specs.Outcome.{BlockAnswer, held_work, held_outputs, held, ended, work_buffers, output_buffers}
 use Rattle.triangular.proofs.Room.{work_kept, roomy_split}
+use Rattle.triangular.proofs.Work.{same_cleared}
 use Rattle.edit.proofs.Outcome.{early_outcome, outcome_means, tested_exit}
 use Rattle.edit.proofs.entry.edit_column.Goals as goal
 
-pub returns-in-Refused : goal.returns-in-Refused
-returns-in-Refused c =
-    -- what is lent, its buffers, and what the early checks say of them
-    let lent_at : Lent = lent (work c.args.visited.now c.args.cheap.now c.args.finished.now c.args.col2row.now c.args.backstarts.now
-    c.args.backrows.now c.args.scol.now c.args.sat.now)
-    (outputs c.args.row2col.now c.args.hall.now c.args.blockcols.now c.args.blockstarts.now) in
-    let buffers_at : List Buffer = buffers c.args.size (edit_entries c.args.size c.args.rows.now) lent_at in
-    let early_at : Checked = first_refusal (early c.args.size c.args.starts.now c.args.rows.now buffers_at) in
-    let found : c.check_early-first.result ≡ early_at = c.check_early-first.ensures buffers_at (c.lacks_room-short.ensures c.args.backrows.now
-    (edit_entries c.args.size c.args.rows.now) refl) in
-    let e = early_outcome c.args.size c.args.starts.now c.args.rows.now c.args.edited.0 c.args.replacement.now lent_at _ (sym found ∙ c.in-Refused.is) in record {
-      outcome = e;
-      meaning = outcome_means c.args.size c.args.starts.now c.args.rows.now c.args.edited.0 c.args.replacement.now lent_at _ _ e;
-    }
+pub returns-in_err-mat : goal.returns-in_err-mat
+returns-in_err-mat c =
+    let l = held c.args.work.now c.args.outputs.now in
+    let entries = edit_entries c.args.size c.args.rows.now in
+    let found = c.check_early.ensures.value _ (c.lacks_room-short.ensures entries refl) in
+    let p = err_from_is_err_and c.from_residual.result c.from_residual.ensures.1 in
+    let e = ap (λ (a : BlockAnswer). ended a l) (p.1 ∙ ap (λ r. Err r) p.2)
+    ∙ early_outcome _ _ _ _ _ l _ (sym found ∙ ap checked c.in_err-mat.was) in
+    record { outcome = e; meaning = outcome_means _ _ _ _ _ l _ _ e; same_slices = search rules }
 
 pub edit_tested-answer-requires : goal.edit_tested-answer-requires
 edit_tested-answer-requires c =
-    -- what is lent, its buffers, and what the early checks say of them
-    let lent_at : Lent = lent (work c.args.visited.now c.args.cheap.now c.args.finished.now c.args.col2row.now c.args.backstarts.now
-    c.args.backrows.now c.args.scol.now c.args.sat.now)
-    (outputs c.args.row2col.now c.args.hall.now c.args.blockcols.now c.args.blockstarts.now) in
-    let buffers_at : List Buffer = buffers c.args.size (edit_entries c.args.size c.args.rows.now) lent_at in
-    let early_at : Checked = first_refusal (early c.args.size c.args.starts.now c.args.rows.now buffers_at) in
-    let found : c.check_early-first.result ≡ early_at = c.check_early-first.ensures buffers_at (c.lacks_room-short.ensures c.args.backrows.now
-    (edit_entries c.args.size c.args.rows.now) refl) in
-    let none_refused : early_at ≡ checked.Passed = sym found ∙ c.in_default.is in
-    let passed : (Early c.args.size c.args.starts.now c.args.rows.now buffers_at) = early_passed c.args.size c.args.starts.now c.args.rows.now buffers_at
-    none_refused in record {
-      shaped = (passed.shaped, passed.below);
-      roomy = passed.room;
-    }
+    let l = held c.args.work.now c.args.outputs.now in
+    let entries = edit_entries c.args.size c.args.rows.now in
+    let found = c.check_early.ensures.value _ (c.lacks_room-short.ensures entries refl) in
+    let mat = c.in_ok-mat.ensures in
+    rw (mat.size, mat.rows) (early_passed _ _ _ _ (sym found ∙ ap checked c.in_ok-mat.was)).room
 
-pub overflow_cast-rows : goal.overflow_cast-rows
-overflow_cast-rows c =
-    -- what is lent, its buffers, and what the early checks say of them
-    let lent_at : Lent = lent (work c.args.visited.now c.args.cheap.now c.args.finished.now c.args.col2row.now c.args.backstarts.now
-    c.args.backrows.now c.args.scol.now c.args.sat.now)
-    (outputs c.args.row2col.now c.args.hall.now c.args.blockcols.now c.args.blockstarts.now) in
-    let buffers_at : List Buffer = buffers c.args.size (edit_entries c.args.size c.args.rows.now) lent_at in
-    let early_at : Checked = first_refusal (early c.args.size c.args.starts.now c.args.rows.now buffers_at) in
-    let found : c.check_early-first.result ≡ early_at = c.check_early-first.ensures buffers_at (c.lacks_room-short.ensures c.args.backrows.now
-    (edit_entries c.args.size c.args.rows.now) refl) in
-    let none_refused : early_at ≡ checked.Passed = sym found ∙ c.in_default.is in
-    let passed : (Early c.args.size c.args.starts.now c.args.rows.now buffers_at) = early_passed c.args.size c.args.starts.now c.args.rows.now buffers_at
-    none_refused in
-    omega (arith, passed.shaped.few)
-
-pub overflow_add-rows : goal.overflow_add-rows
-overflow_add-rows c =
-    -- what is lent, its buffers, and what the early checks say of them
-    let lent_at : Lent = lent (work c.args.visited.now c.args.cheap.now c.args.finished.now c.args.col2row.now c.args.backstarts.now
-    c.args.backrows.now c.args.scol.now c.args.sat.now)
-    (outputs c.args.row2col.now c.args.hall.now c.args.blockcols.now c.args.blockstarts.now) in
-    let buffers_at : List Buffer = buffers c.args.size (edit_entries c.args.size c.args.rows.now) lent_at in
-    let early_at : Checked = first_refusal (early c.args.size c.args.starts.now c.args.rows.now buffers_at) in
-    let found : c.check_early-first.result ≡ early_at = c.check_early-first.ensures buffers_at (c.lacks_room-short.ensures c.args.backrows.now
-    (edit_entries c.args.size c.args.rows.now) refl) in
-    let none_refused : early_at ≡ checked.Passed = sym found ∙ c.in_default.is in
-    let passed : (Early c.args.size c.args.starts.now c.args.rows.now buffers_at) = early_passed c.args.size c.args.starts.now c.args.rows.now buffers_at
-    none_refused in
-    omega (arith, passed.shaped.few, passed.shaped.small)
-
-pub clear_work-requires : goal.clear_work-requires
-clear_work-requires c =
-    -- what is lent, its buffers, and what the early checks say of them
-    let lent_at : Lent = lent (work c.args.visited.now c.args.cheap.now c.args.finished.now c.args.col2row.now c.args.backstarts.now
-    c.args.backrows.now c.args.scol.now c.args.sat.now)
-    (outputs c.args.row2col.now c.args.hall.now c.args.blockcols.now c.args.blockstarts.now) in
-    let buffers_at : List Buffer = buffers c.args.size (edit_entries c.args.size c.args.rows.now) lent_at in
-    let early_at : Checked = first_refusal (early c.args.size c.args.starts.now c.args.rows.now buffers_at) in
-    let found : c.check_early-first.result ≡ early_at = c.check_early-first.ensures buffers_at (c.lacks_room-short.ensures c.args.backrows.now
-    (edit_entries c.args.size c.args.rows.now) refl) in
-    let none_refused : early_at ≡ checked.Passed = sym found ∙ c.in_default.is in
-    let passed : (Early c.args.size c.args.starts.now c.args.rows.now buffers_at) = early_passed c.args.size c.args.starts.now c.args.rows.now buffers_at
-    none_refused in record {
-      size_le_max_size = passed.shaped.small;
-      roomy = work_kept c.args.size (edit_entries c.args.size c.args.rows.now) lent_at.inner (work c.edit_tested-answer.new.visited
-          c.edit_tested-answer.new.cheap c.edit_tested-answer.new.finished c.edit_tested-answer.new.col2row c.edit_tested-answer.new.backstarts
-          c.edit_tested-answer.new.backrows c.edit_tested-answer.new.scol c.edit_tested-answer.new.sat)
-          c.edit_tested-answer.auto.visited c.edit_tested-answer.auto.cheap c.edit_tested-answer.auto.finished c.edit_tested-answer.auto.col2row
-          c.edit_tested-answer.auto.backstarts c.edit_tested-answer.auto.backrows c.edit_tested-answer.auto.scol c.edit_tested-answer.auto.sat
-          (roomy_split (work_buffers c.args.size (edit_entries c.args.size c.args.rows.now) lent_at.inner) (output_buffers c.args.size lent_at.outer) passed.room).0;
-    }
+pub clear_work-requires-clause-roomy : goal.clear_work-requires-clause-roomy
+clear_work-requires-clause-roomy c =
+    let l = held c.args.work.now c.args.outputs.now in
+    let entries = edit_entries c.args.size c.args.rows.now in
+    let found = c.check_early.ensures.value _ (c.lacks_room-short.ensures entries refl) in
+    let room = (early_passed _ _ _ _ (sym found ∙ ap checked c.in_ok-mat.was)).room in
+    work_kept c.args.size entries l.inner (held_work c.edit_tested-answer.new.work) c.edit_tested-answer.ensures.same_work
+    (roomy_split (work_buffers c.args.size entries l.inner) (output_buffers c.args.size l.outer) room).0
 
 pub returns : goal.returns
 returns c =
-    -- what is lent, its buffers, and what the early checks say of them
-    let lent_at : Lent = lent (work c.args.visited.now c.args.cheap.now c.args.finished.now c.args.col2row.now c.args.backstarts.now
-    c.args.backrows.now c.args.scol.now c.args.sat.now)
-    (outputs c.args.row2col.now c.args.hall.now c.args.blockcols.now c.args.blockstarts.now) in
-    let buffers_at : List Buffer = buffers c.args.size (edit_entries c.args.size c.args.rows.now) lent_at in
-    let early_at : Checked = first_refusal (early c.args.size c.args.starts.now c.args.rows.now buffers_at) in
-    let found : c.check_early-first.result ≡ early_at = c.check_early-first.ensures buffers_at (c.lacks_room-short.ensures c.args.backrows.now
-    (edit_entries c.args.size c.args.rows.now) refl) in
-    let none_refused : early_at ≡ checked.Passed = sym found ∙ c.in_default.is in record {
-      outcome = (tested_exit c.args.size c.args.starts.now c.args.rows.now c.args.edited.0 c.args.replacement.now lent_at (work _ _ _ _ _ _ _ _) (outputs _ _ _ _) _ none_refused (c.clear_work.ensures ∙ c.edit_tested-answer.ensures.sat_unchanged) c.edit_tested-answer.ensures.blockstarts_after).0;
-      meaning = (tested_exit c.args.size c.args.starts.now c.args.rows.now c.args.edited.0 c.args.replacement.now lent_at (work _ _ _ _ _ _ _ _) (outputs _ _ _ _) _ none_refused (c.clear_work.ensures ∙ c.edit_tested-answer.ensures.sat_unchanged) c.edit_tested-answer.ensures.blockstarts_after).1;
-    }
+    let l = held c.args.work.now c.args.outputs.now in
+    let entries = edit_entries c.args.size c.args.rows.now in
+    let found = c.check_early.ensures.value _ (c.lacks_room-short.ensures entries refl) in
+    let mat = c.in_ok-mat.ensures in
+    let tested = c.edit_tested-answer in
+    let same = rw (mat.size, mat.rows) at tested.ensures.same_work in
+    let gives = rw (mat.size, mat.starts, mat.rows) at tested.ensures.outputs_after in
+    let zero = ap held_work c.clear_work.ensures ∙ same_cleared c.args.size entries l.inner (held_work tested.new.work) same in
+    let e = tested_exit _ _ _ _ _ l (held_work c.clear_work.new.work) (held_outputs tested.new.outputs) _
+    (sym found ∙ ap checked c.in_ok-mat.was) zero gives in
+    record { outcome = e.0; meaning = e.1; same_slices = search rules }

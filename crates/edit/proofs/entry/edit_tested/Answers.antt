@@ -1,60 +1,57 @@
 -- `edit_tested` meets its contract: a late check refuses, and else the valid edit is made.
-use Rattle.std.proofs.Common.{arith, ◌≡◌, sym, ◌∙◌}
-use Rattle.sparse.specs.Refusals.{first_refusal, repeated_row}
-use Rattle.sparse.specs.declared.Checked.TheVariants as checked
+use Rattle.std.proofs.Common.{arith, sym, ◌∙◌}
+use Rattle.std.proofs.lemmas.Result.{err_from_is_err_and}
 use Rattle.sparse.proofs.Matrix.{column_once}
-use Rattle.triangular.specs.Outcome.{outputs}
+use Rattle.matching.proofs.Work.{stays_then}
+use Rattle.triangular.specs.Outcome.{held_work, held_outputs}
+use Rattle.triangular.proofs.Work.{same_then, zeroed_stays}
 use Rattle.rematching.proofs.Late.{late_passed, former_read}
-use Rattle.rematching.specs.Checks.{late, Editable}
 use Rattle.edit.proofs.Outcome.{refused_replaced, verdict_replaced}
+use Rattle.edit.proofs.ValidEdit.{unchanged, columns_same}
 use Rattle.edit.proofs.entry.edit_tested.Goals as goal
 
-pub returns-in-Refused-clause-blockstarts_after : goal.returns-in-Refused-clause-blockstarts_after
-returns-in-Refused-clause-blockstarts_after c w =
-    refused_replaced c.args.size c.args.starts.now c.args.rows.now c.args.edited.0 c.args.replacement.now w
-    (outputs c.args.row2col.now c.args.hall.now c.args.blockcols.now c.args.blockstarts.now) _
-    (sym c.check_edit-checked.ensures.value ∙ c.in-Refused.is)
+pub returns-in_err-check_edit-clause-outputs_after : goal.returns-in_err-check_edit-clause-outputs_after
+returns-in_err-check_edit-clause-outputs_after c =
+    let p = err_from_is_err_and c.from_residual.result c.from_residual.ensures.1 in
+    λ w. rw (p.1, p.2)
+    (refused_replaced _ _ _ _ _ w (held_outputs c.args.outputs.now) _ (sym c.check_edit.ensures.value ∙ c.in_err-check_edit.was))
+
+pub returns-in_err-check_edit-clause-same_work : goal.returns-in_err-check_edit-clause-same_work
+returns-in_err-check_edit-clause-same_work c =
+    let w = held_work c.args.work.now in
+    let beyond = c.check_edit.ensures.same_beyond in
+    let kept = c.check_edit.auto in
+    let same = columns_same w _ w.cheap _
+    (stays_then (zeroed_stays c.clear.ensures c.clear.auto.s) (record { same_length = kept.visited; beyond = beyond.0 })) unchanged
+    (record { same_length = kept.col2row; beyond = beyond.1 }) in
+    same
 
 pub edit_valid-requires : goal.edit_valid-requires
 edit_valid-requires c =
-    let none_refused : first_refusal (late c.args.size c.args.starts.now c.args.rows.now c.args.edited.0 c.args.replacement.now c.args.row2col.now)
-    ≡ checked.Passed = sym c.check_edit-checked.ensures.value ∙ c.in_default.is in
-    let fit : ((repeated_row c.args.size c.args.starts.now c.args.rows.now ≡ checked.Passed)
-    × Editable c.args.size c.args.starts.now c.args.rows.now c.args.edited.0 c.args.replacement.now
-    c.args.row2col.now) = late_passed c.args.size c.args.starts.now c.args.rows.now c.args.edited.0
-    c.args.replacement.now c.args.row2col.now c.requires.roomy.1.1.1.1.1.1.1.1.0
-    none_refused in record {
-      given = record {
-        valid = record {
-          shaped = c.requires.shaped.0;
-          below = c.requires.shaped.1;
-          once = λ d l. column_once c.requires.shaped.0 fit.0 d;
-        };
-        editable = fit.1;
-        room = (
-          omega (arith, c.requires.roomy.0, c.clear.auto, c.check_edit-checked.auto),
-          (
-            c.requires.roomy.1.0,
-            (
-              c.requires.roomy.1.1.0,
-              (
-                omega (
-                  arith,
-                  c.requires.roomy.1.1.1.0,
-                  c.check_edit-checked.auto,
-                ),
-                c.requires.roomy.1.1.1.1,
-              ),
-            ),
-          ),
-        );
-      };
-      edited_value = former_read c.args.size c.args.row2col.now _ _ c.args.edited.0 (c.check_edit-checked.ensures.col2row_after c.in_default.is) fit.1.below;
+    let room = c.requires in
+    let fit = late_passed _ _ _ _ _ c.args.outputs.now.row2col.now room.1.1.1.1.1.1.1.1.0
+    (sym c.check_edit.ensures.value ∙ c.in_ok-check_edit.was) in record {
+      once = λ d l. column_once c.args.mat.now.mat.shaped fit.0 d;
+      editable = fit.1;
+      roomy = (
+        omega (arith, room.0, c.clear.auto, c.check_edit.auto),
+        (room.1.0, (room.1.1.0, (omega (arith, room.1.1.1.0, c.check_edit.auto), room.1.1.1.1))),
+      );
+      edited_value = former_read _ c.args.outputs.now.row2col.now _ _ _ (c.check_edit.ensures.col2row_after c.in_ok-check_edit.was)
+          fit.1.below;
     }
 
-pub returns-clause-blockstarts_after : goal.returns-clause-blockstarts_after
-returns-clause-blockstarts_after c w =
-    c.edit_valid.ensures.blockstarts_after w
-    ∙ verdict_replaced c.args.size c.args.starts.now c.args.rows.now c.args.edited.0 c.args.replacement.now w
-    (outputs c.args.row2col.now c.args.hall.now c.args.blockcols.now c.args.blockstarts.now)
-    (sym c.check_edit-checked.ensures.value ∙ c.in_default.is)
+pub returns-clause-outputs_after : goal.returns-clause-outputs_after
+returns-clause-outputs_after c w =
+    c.edit_valid.ensures.outputs_after w
+    ∙ verdict_replaced _ _ _ _ _ w (held_outputs c.args.outputs.now) (sym c.check_edit.ensures.value ∙ c.in_ok-check_edit.was)
+
+pub returns-clause-same_work : goal.returns-clause-same_work
+returns-clause-same_work c =
+    let w = held_work c.args.work.now in
+    let beyond = c.check_edit.ensures.same_beyond in
+    let kept = c.check_edit.auto in
+    let same = columns_same w _ w.cheap _
+    (stays_then (zeroed_stays c.clear.ensures c.clear.auto.s) (record { same_length = kept.visited; beyond = beyond.0 })) unchanged
+    (record { same_length = kept.col2row; beyond = beyond.1 }) in
+    same_then same c.edit_valid.ensures.same_work

@@ -1,109 +1,57 @@
 -- `edit_valid` meets its contract: a search that failed is refused with its stamps as marks, and a path found is cut into blocks.
-use Rattle.edit.proofs.ValidEdit.{Searched, cleared_beyond, searched_reversible, searched_room}
-use Rattle.edit.proofs.ValidEdit.{searched_accepted, searched_refused, passed_cleared}
+use Rattle.std.proofs.Common.{rules, Ok, ap, ◌∙◌}
+use Rattle.triangular.specs.Outcome.{held_work, held_outputs, held, ended, lent}
+use Rattle.triangular.proofs.Work.{same_then, matching_same, zeroed_stays}
 use Rattle.edit.proofs.EditedEntries.{entries_few}
-use Rattle.triangular.specs.Outcome.{Lent, work, outputs, lent}
-use Rattle.std.proofs.Common.{arith}
+use Rattle.edit.proofs.ValidEdit.{given_edit, unchanged, columns_same, edited_room, passed_same}
+use Rattle.edit.proofs.ValidEdit.{searched, searched_reversible, searched_accepted, searched_refused}
 use Rattle.edit.proofs.valid.edit_valid.Goals as goal
 
-pub returns-then-end-size-clause-blockstarts_after : goal.returns-then-end-size-clause-blockstarts_after
-returns-then-end-size-clause-blockstarts_after c =
-    -- what is lent
-    let lent_at : Lent = lent (work c.args.visited.now c.args.cheap.now c.args.finished.now c.args.col2row.now
-    c.args.backstarts.now c.args.backrows.now c.args.scol.now c.args.sat.now)
-    (outputs c.args.row2col.now c.args.hall.now c.args.blockcols.now c.args.blockstarts.now) in
-    -- it leaves what the rest needs
-    let searched : (Searched c.args.size c.args.starts.now c.args.rows.now c.args.edited.0
-    c.args.replacement.now lent_at c.rematch-end.result c.rematch-end.new.visited
-    c.rematch-end.new.cheap c.rematch-end.new.scol
-    c.rematch-end.new.sat c.rematch-end.new.row2col) = record {
-      given = c.requires.given;
-      ends = c.rematch-end.ensures.ends_at;
-      kept = c.rematch-end.ensures.row2col_unchanged;
-      matching = c.rematch-end.ensures.same_beyond;
-      visited = cleared_beyond c.args.size c.args.visited.now _ _ c.clear.ensures
-          c.rematch-end.ensures.work_beyond.0;
-      cheap = cleared_beyond c.args.size c.args.cheap.now _ _ c.clear-2.ensures
-          c.rematch-end.ensures.work_beyond.1;
-      cols = c.rematch-end.ensures.work_beyond.2;
-      places = c.rematch-end.ensures.work_beyond.3;
-      matching_length = c.rematch-end.auto.row2col;
-      visited_length = omega (arith, c.rematch-end.auto.visited, c.clear.auto.s);
-      cheap_length = omega (arith, c.rematch-end.auto.cheap, c.clear-2.auto.s);
-      cols_length = c.rematch-end.auto.scol;
-      places_length = c.rematch-end.auto.sat;
-    } in
-    searched_refused searched c.if-end-size.true c.refuse_edit.ensures.value
-    c.refuse_edit.ensures.hall_after c.refuse_edit.ensures.blockcols_after.0
-    c.refuse_edit.ensures.blockcols_after.1
+pub returns-in-Some-clause-outputs_after : goal.returns-in-Some-clause-outputs_after
+returns-in-Some-clause-outputs_after c =
+    let l = held c.args.work.now c.args.outputs.now in
+    let given = given_edit c.args.mat.now c.args.edit.now l c.requires.once c.requires.editable c.requires.roomy in
+    let found = c.rematch-failed.ensures in
+    let S = searched given found.ends_at found.row2col_unchanged found.same_beyond c.rematch-failed.auto.row2col in
+    λ u. rw (c.refuse_edit.ensures.value, c.refuse_edit.ensures.outputs_after)
+    (searched_refused S c.in-Some.is (search (rules, found.same_work.slices)) u)
 
-pub block_matched-count-requires : goal.block_matched-count-requires
-block_matched-count-requires c =
-    -- what is lent
-    let lent_at : Lent = lent (work c.args.visited.now c.args.cheap.now c.args.finished.now c.args.col2row.now
-    c.args.backstarts.now c.args.backrows.now c.args.scol.now c.args.sat.now)
-    (outputs c.args.row2col.now c.args.hall.now c.args.blockcols.now c.args.blockstarts.now) in
-    -- it leaves what the rest needs
-    let searched : (Searched c.args.size c.args.starts.now c.args.rows.now c.args.edited.0
-    c.args.replacement.now lent_at c.rematch-end.result c.rematch-end.new.visited
-    c.rematch-end.new.cheap c.rematch-end.new.scol
-    c.rematch-end.new.sat c.rematch-end.new.row2col) = record {
-      given = c.requires.given;
-      ends = c.rematch-end.ensures.ends_at;
-      kept = c.rematch-end.ensures.row2col_unchanged;
-      matching = c.rematch-end.ensures.same_beyond;
-      visited = cleared_beyond c.args.size c.args.visited.now _ _ c.clear.ensures
-          c.rematch-end.ensures.work_beyond.0;
-      cheap = cleared_beyond c.args.size c.args.cheap.now _ _ c.clear-2.ensures
-          c.rematch-end.ensures.work_beyond.1;
-      cols = c.rematch-end.ensures.work_beyond.2;
-      places = c.rematch-end.ensures.work_beyond.3;
-      matching_length = c.rematch-end.auto.row2col;
-      visited_length = omega (arith, c.rematch-end.auto.visited, c.clear.auto.s);
-      cheap_length = omega (arith, c.rematch-end.auto.cheap, c.clear-2.auto.s);
-      cols_length = c.rematch-end.auto.scol;
-      places_length = c.rematch-end.auto.sat;
-    } in record {
-      shaped = searched.given.valid.shaped;
-      reversible = (
-        searched_reversible searched (omega (arith, c.if-end-size.false)),
-        entries_few searched.given.valid.shaped searched.given.editable,
-      );
-      roomy = searched_room searched;
-      size_in_bounds = (
-        searched.given.room.1.1.1.1.1.1.1.1.1.1.0,
-        searched.given.room.1.1.1.1.1.1.1.1.1.1.1.0,
-      );
-    }
+pub returns-in-Some-clause-same_work : goal.returns-in-Some-clause-same_work
+returns-in-Some-clause-same_work c =
+    let w = held_work c.args.work.now in
+    let found = c.rematch-failed.ensures in
+    (same_then (columns_same w _ _ _ (zeroed_stays c.clear.ensures c.clear.auto.s) (zeroed_stays c.clear-2.ensures c.clear-2.auto.s)
+    unchanged) (matching_same _ _ _ _ found.same_work (search (rules, found.same_work.slices))))
 
-pub returns : goal.returns
-returns c =
-    -- what is lent
-    let lent_at : Lent = lent (work c.args.visited.now c.args.cheap.now c.args.finished.now c.args.col2row.now
-    c.args.backstarts.now c.args.backrows.now c.args.scol.now c.args.sat.now)
-    (outputs c.args.row2col.now c.args.hall.now c.args.blockcols.now c.args.blockstarts.now) in
-    -- it leaves what the rest needs
-    let searched : (Searched c.args.size c.args.starts.now c.args.rows.now c.args.edited.0
-    c.args.replacement.now lent_at c.rematch-end.result c.rematch-end.new.visited
-    c.rematch-end.new.cheap c.rematch-end.new.scol
-    c.rematch-end.new.sat c.rematch-end.new.row2col) = record {
-      given = c.requires.given;
-      ends = c.rematch-end.ensures.ends_at;
-      kept = c.rematch-end.ensures.row2col_unchanged;
-      matching = c.rematch-end.ensures.same_beyond;
-      visited = cleared_beyond c.args.size c.args.visited.now _ _ c.clear.ensures
-          c.rematch-end.ensures.work_beyond.0;
-      cheap = cleared_beyond c.args.size c.args.cheap.now _ _ c.clear-2.ensures
-          c.rematch-end.ensures.work_beyond.1;
-      cols = c.rematch-end.ensures.work_beyond.2;
-      places = c.rematch-end.ensures.work_beyond.3;
-      matching_length = c.rematch-end.auto.row2col;
-      visited_length = omega (arith, c.rematch-end.auto.visited, c.clear.auto.s);
-      cheap_length = omega (arith, c.rematch-end.auto.cheap, c.clear-2.auto.s);
-      cols_length = c.rematch-end.auto.scol;
-      places_length = c.rematch-end.auto.sat;
-    } in record {
-      blockstarts_after = searched_accepted searched (omega (arith, c.if-end-size.false)) c.clear-3.ensures
-          c.block_matched-count.ensures.holds_blocks;
-      sat_unchanged = passed_cleared searched c.block_matched-count.ensures.same_work;
-    }
+pub block_matched-count-requires-clause-reversible : goal.block_matched-count-requires-clause-reversible
+block_matched-count-requires-clause-reversible c =
+    let l = held c.args.work.now c.args.outputs.now in
+    let given = given_edit c.args.mat.now c.args.edit.now l c.requires.once c.requires.editable c.requires.roomy in
+    let found = c.rematch-failed.ensures in
+    let S = searched given found.ends_at found.row2col_unchanged found.same_beyond c.rematch-failed.auto.row2col in
+    (searched_reversible S c.in_default.is, entries_few c.args.mat.now.mat.shaped c.requires.editable)
+
+pub block_matched-count-requires-clause-roomy : goal.block_matched-count-requires-clause-roomy
+block_matched-count-requires-clause-roomy c =
+    let l = held c.args.work.now c.args.outputs.now in
+    let given = given_edit c.args.mat.now c.args.edit.now l c.requires.once c.requires.editable c.requires.roomy in
+    let found = c.rematch-failed.ensures in
+    edited_room given (same_then (columns_same l.inner _ _ _ (zeroed_stays c.clear.ensures c.clear.auto.s) (zeroed_stays c.clear-2.ensures c.clear-2.auto.s)
+    unchanged) (matching_same _ _ _ _ found.same_work (search (rules, found.same_work.slices))))
+
+pub returns-clause-outputs_after : goal.returns-clause-outputs_after
+returns-clause-outputs_after c =
+    let l = held c.args.work.now c.args.outputs.now in
+    let given = given_edit c.args.mat.now c.args.edit.now l c.requires.once c.requires.editable c.requires.roomy in
+    let found = c.rematch-failed.ensures in
+    let S = searched given found.ends_at found.row2col_unchanged found.same_beyond c.rematch-failed.auto.row2col in
+    λ u. ap (λ x. ended (Ok c.block_matched-count.result) (lent u x)) (ap held_outputs c.block_matched-count.ensures.same_outputs)
+    ∙ searched_accepted S c.in_default.is c.clear-3.ensures c.block_matched-count.ensures.holds_blocks u
+
+pub returns-clause-same_work : goal.returns-clause-same_work
+returns-clause-same_work c =
+    let l = held c.args.work.now c.args.outputs.now in
+    let given = given_edit c.args.mat.now c.args.edit.now l c.requires.once c.requires.editable c.requires.roomy in
+    let found = c.rematch-failed.ensures in
+    passed_same given (same_then (columns_same l.inner _ _ _ (zeroed_stays c.clear.ensures c.clear.auto.s) (zeroed_stays c.clear-2.ensures c.clear-2.auto.s)
+    unchanged) (matching_same _ _ _ _ found.same_work (search (rules, found.same_work.slices)))) c.block_matched-count.ensures.same_work
