@@ -19,14 +19,17 @@ use Rattle.sparse.proofs.Buffers.{front_filled}
 use Rattle.matching.specs.Matching.{Verdict, accepted, refused}
 use Rattle.matching.specs.Outcome.{marks_of}
 use Rattle.matching.specs.Parts.{EndsAt, SameBeyond}
+use Rattle.matching.specs.Work as searches
 use Rattle.matching.specs.Work.{Stays}
+use Rattle.matching.specs.declared.search.SearchWork.{SearchWork}
 use Rattle.matching.proofs.Ready.{short_or}
+use Rattle.matching.proofs.Work.{stays_then}
 use Rattle.blocks.specs.Cut.{HoldsBlocks}
 use Rattle.blocks.specs.Reverse.{entries, Reversible}
 use Rattle.rematching.specs.Checks.{Editable}
 use Rattle.rematching.specs.Rematching.{rematching}
 use Rattle.std.proofs.lemmas.Option.{none-some}
-use Rattle.triangular.specs.Outcome.{Work, Outputs, outputs, Lent, lent, work_buffers}
+use Rattle.triangular.specs.Outcome.{Work, work, Outputs, outputs, Lent, lent, work_buffers}
 use Rattle.triangular.specs.Outcome.{output_buffers, buffers, ended, unmatchable}
 use Rattle.triangular.specs.Parts.{SameWork}
 use Rattle.triangular.proofs.Room.{work_kept, roomy_split}
@@ -76,15 +79,15 @@ ends_refused size failed col w v o (refused c seen) E em =
 -- ---- the workspace
 
 -- what is not changed stays
-pub unchanged : {n : ℕ} {xs : List ℕ} → Stays n xs xs
+unchanged : {n : ℕ} {xs : List ℕ} → Stays n xs xs
 unchanged = record { same_length = refl; beyond = refl }
 
--- where only stamps, cheap places and the row of each column change
-pub columns_same : {n k : ℕ} (w : Work) (v c r : List ℕ) → Stays n w.visited v → Stays n w.cheap c → Stays n w.col2row r
-    → SameWork n k w (record w { visited = v; cheap = c; col2row = r })
-columns_same w v c r V C R = record {
+-- where only the stamps and the row of each column change
+pub columns_same : {n k : ℕ} (w : Work) (v r : List ℕ) → Stays n w.visited v → Stays n w.col2row r
+    → SameWork n k w (record w { visited = v; col2row = r })
+columns_same w v r V R = record {
   visited = V;
-  cheap = C;
+  cheap = unchanged;
   finished = unchanged;
   col2row = R;
   backstarts = unchanged;
@@ -92,6 +95,21 @@ columns_same w v c r V C R = record {
   cols = unchanged;
   places = unchanged;
 }
+
+-- what a search from s to t leaves, once the stamps and cheap places were cleared
+pub search_same : {n k : ℕ} (w : Work) {s t : SearchWork} {x : Work} → searches.SameWork n s t → Stays n w.visited s.visited.now
+    → Stays n w.cheap s.cheap.now → s.scol.now ≡ w.scol → s.sat.now ≡ w.sat
+    → x ≡ work t.visited.now t.cheap.now w.finished w.col2row w.backstarts w.backrows t.scol.now t.sat.now → SameWork n k w x
+search_same w S V C f g e = rw e (record {
+  visited = stays_then V S.visited;
+  cheap = stays_then C S.cheap;
+  finished = unchanged;
+  col2row = unchanged;
+  backstarts = unchanged;
+  backrows = unchanged;
+  cols = rw f at S.cols;
+  places = rw g at S.places;
+})
 
 -- a slice that stays beyond k stays beyond more
 stays_more : {k : ℕ} (j : ℕ) {xs ys : List ℕ} → k ≤ j → Stays k xs ys → Stays j xs ys

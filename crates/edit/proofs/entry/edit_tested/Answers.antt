@@ -7,7 +7,7 @@ use Rattle.triangular.specs.Outcome.{held_work, held_outputs}
 use Rattle.triangular.proofs.Work.{same_then, zeroed_stays}
 use Rattle.rematching.proofs.Late.{late_passed, former_read}
 use Rattle.edit.proofs.Outcome.{refused_replaced, verdict_replaced}
-use Rattle.edit.proofs.ValidEdit.{unchanged, columns_same}
+use Rattle.edit.proofs.ValidEdit.{columns_same}
 use Rattle.edit.proofs.entry.edit_tested.Goals as goal
 
 pub returns-in_err-check_edit-clause-outputs_after : goal.returns-in_err-check_edit-clause-outputs_after
@@ -21,10 +21,9 @@ returns-in_err-check_edit-clause-same_work c =
     let w = held_work c.args.work.now in
     let beyond = c.check_edit.ensures.same_beyond in
     let kept = c.check_edit.auto in
-    let same = columns_same w _ w.cheap _
-    (stays_then (zeroed_stays c.clear.ensures c.clear.auto.s) (record { same_length = kept.visited; beyond = beyond.0 })) unchanged
-    (record { same_length = kept.col2row; beyond = beyond.1 }) in
-    same
+    columns_same w _ _
+    (stays_then (zeroed_stays c.clear.ensures c.clear.auto.s) (record { same_length = kept.visited; beyond = beyond.0 }))
+    (record { same_length = kept.col2row; beyond = beyond.1 })
 
 pub edit_valid-requires : goal.edit_valid-requires
 edit_valid-requires c =
@@ -51,7 +50,7 @@ returns-clause-same_work c =
     let w = held_work c.args.work.now in
     let beyond = c.check_edit.ensures.same_beyond in
     let kept = c.check_edit.auto in
-    let same = columns_same w _ w.cheap _
-    (stays_then (zeroed_stays c.clear.ensures c.clear.auto.s) (record { same_length = kept.visited; beyond = beyond.0 })) unchanged
+    let same = columns_same w _ _
+    (stays_then (zeroed_stays c.clear.ensures c.clear.auto.s) (record { same_length = kept.visited; beyond = beyond.0 }))
     (record { same_length = kept.col2row; beyond = beyond.1 }) in
     same_then same c.edit_valid.ensures.same_work

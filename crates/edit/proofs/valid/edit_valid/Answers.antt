@@ -1,9 +1,9 @@
 -- `edit_valid` meets its contract: a search that failed is refused with its stamps as marks, and a path found is cut into blocks.
-use Rattle.std.proofs.Common.{rules, Ok, ap, ◌∙◌}
+use Rattle.std.proofs.Common.{rules, Ok, refl, ap, ◌∙◌}
 use Rattle.triangular.specs.Outcome.{held_work, held_outputs, held, ended, lent}
-use Rattle.triangular.proofs.Work.{same_then, matching_same, zeroed_stays}
+use Rattle.triangular.proofs.Work.{zeroed_stays}
 use Rattle.edit.proofs.EditedEntries.{entries_few}
-use Rattle.edit.proofs.ValidEdit.{given_edit, unchanged, columns_same, edited_room, passed_same}
+use Rattle.edit.proofs.ValidEdit.{given_edit, search_same, edited_room, passed_same}
 use Rattle.edit.proofs.ValidEdit.{searched, searched_reversible, searched_accepted, searched_refused}
 use Rattle.edit.proofs.valid.edit_valid.Goals as goal
 
@@ -20,8 +20,9 @@ pub returns-in-Some-clause-same_work : goal.returns-in-Some-clause-same_work
 returns-in-Some-clause-same_work c =
     let w = held_work c.args.work.now in
     let found = c.rematch-failed.ensures in
-    (same_then (columns_same w _ _ _ (zeroed_stays c.clear.ensures c.clear.auto.s) (zeroed_stays c.clear-2.ensures c.clear-2.auto.s)
-    unchanged) (matching_same _ _ _ _ found.same_work (search (rules, found.same_work.slices))))
+    let stamps = zeroed_stays c.clear.ensures c.clear.auto.s in
+    let cheap = zeroed_stays c.clear-2.ensures c.clear-2.auto.s in
+    search_same w found.same_work stamps cheap refl refl (search (rules, found.same_work.slices))
 
 pub block_matched-count-requires-clause-reversible : goal.block_matched-count-requires-clause-reversible
 block_matched-count-requires-clause-reversible c =
@@ -36,8 +37,9 @@ block_matched-count-requires-clause-roomy c =
     let l = held c.args.work.now c.args.outputs.now in
     let given = given_edit c.args.mat.now c.args.edit.now l c.requires.once c.requires.editable c.requires.roomy in
     let found = c.rematch-failed.ensures in
-    edited_room given (same_then (columns_same l.inner _ _ _ (zeroed_stays c.clear.ensures c.clear.auto.s) (zeroed_stays c.clear-2.ensures c.clear-2.auto.s)
-    unchanged) (matching_same _ _ _ _ found.same_work (search (rules, found.same_work.slices))))
+    let stamps = zeroed_stays c.clear.ensures c.clear.auto.s in
+    let cheap = zeroed_stays c.clear-2.ensures c.clear-2.auto.s in
+    edited_room given (search_same l.inner found.same_work stamps cheap refl refl (search (rules, found.same_work.slices)))
 
 pub returns-clause-outputs_after : goal.returns-clause-outputs_after
 returns-clause-outputs_after c =
@@ -53,5 +55,7 @@ returns-clause-same_work c =
     let l = held c.args.work.now c.args.outputs.now in
     let given = given_edit c.args.mat.now c.args.edit.now l c.requires.once c.requires.editable c.requires.roomy in
     let found = c.rematch-failed.ensures in
-    passed_same given (same_then (columns_same l.inner _ _ _ (zeroed_stays c.clear.ensures c.clear.auto.s) (zeroed_stays c.clear-2.ensures c.clear-2.auto.s)
-    unchanged) (matching_same _ _ _ _ found.same_work (search (rules, found.same_work.slices)))) c.block_matched-count.ensures.same_work
+    let stamps = zeroed_stays c.clear.ensures c.clear.auto.s in
+    let cheap = zeroed_stays c.clear-2.ensures c.clear-2.auto.s in
+    passed_same given (search_same l.inner found.same_work stamps cheap refl refl (search (rules, found.same_work.slices)))
+    c.block_matched-count.ensures.same_work
