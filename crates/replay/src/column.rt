@@ -9,6 +9,7 @@ use super::lent::Lent;
 use super::lists::{Numbers, holding};
 use super::pattern::Pattern;
 use sparse::Column;
+use triangular::{FormOutputs, FormWork};
 
 // The program's own limit.
 const MAX_REPLACEMENT: u32 = 64;
@@ -52,7 +53,22 @@ impl<'a> Edit<'a> {
         let pattern = &self.form.matching.pattern;
         let mut lent = Lent::junk();
         lent.row2col = holding(self.old_matching);
-        let (mut work, mut outputs) = lent.lend();
+        let mut work = FormWork {
+            visited: &mut lent.visited,
+            cheap: &mut lent.cheap,
+            finished: &mut lent.finished,
+            col2row: &mut lent.col2row,
+            backstarts: &mut lent.backstarts,
+            backrows: &mut lent.backrows,
+            scol: &mut lent.scol,
+            sat: &mut lent.sat,
+        };
+        let mut outputs = FormOutputs {
+            row2col: &mut lent.row2col,
+            hall: &mut lent.hall,
+            blockcols: &mut lent.blockcols,
+            blockstarts: &mut lent.blockstarts,
+        };
         let answer = edit::edit_column(
             pattern.size,
             pattern.starts,

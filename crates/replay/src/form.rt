@@ -8,6 +8,7 @@ use super::lent::Lent;
 use super::lists::{Numbers, any_differs, differs, zeros};
 use super::pattern::Pattern;
 use sparse::Refusal;
+use triangular::{FormOutputs, FormWork};
 
 // How many blocks there are, and what blockcols and blockstarts hold afterwards.
 #[derive(Clone, Copy)]
@@ -109,7 +110,22 @@ impl<'a> Form<'a> {
     pub fn agrees(&self) -> bool {
         let pattern = &self.matching.pattern;
         let mut lent = Lent::junk();
-        let (mut work, mut outputs) = lent.lend();
+        let mut work = FormWork {
+            visited: &mut lent.visited,
+            cheap: &mut lent.cheap,
+            finished: &mut lent.finished,
+            col2row: &mut lent.col2row,
+            backstarts: &mut lent.backstarts,
+            backrows: &mut lent.backrows,
+            scol: &mut lent.scol,
+            sat: &mut lent.sat,
+        };
+        let mut outputs = FormOutputs {
+            row2col: &mut lent.row2col,
+            hall: &mut lent.hall,
+            blockcols: &mut lent.blockcols,
+            blockstarts: &mut lent.blockstarts,
+        };
         let answer = triangular::find_block_diag_form(
             pattern.size,
             pattern.starts,

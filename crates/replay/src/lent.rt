@@ -1,6 +1,5 @@
 // The buffers that a call of kind 3 or 4 is lent.
 use super::lists::{JUNK, LENT, LENT_ENTRIES};
-use triangular::{FormOutputs, FormWork};
 
 #[derive(Drop)]
 pub struct Lent {
@@ -34,26 +33,5 @@ impl Lent {
             blockcols: [JUNK; LENT],
             blockstarts: [JUNK; LENT],
         }
-    }
-
-    // The buffers as the entries take them.
-    pub fn lend(&mut self) -> (FormWork<'_>, FormOutputs<'_>) {
-        let work = FormWork {
-            visited: &mut self.visited,
-            cheap: &mut self.cheap,
-            finished: &mut self.finished,
-            col2row: &mut self.col2row,
-            backstarts: &mut self.backstarts,
-            backrows: &mut self.backrows,
-            scol: &mut self.scol,
-            sat: &mut self.sat,
-        };
-        let outputs = FormOutputs {
-            row2col: &mut self.row2col,
-            hall: &mut self.hall,
-            blockcols: &mut self.blockcols,
-            blockstarts: &mut self.blockstarts,
-        };
-        (work, outputs)
     }
 }
