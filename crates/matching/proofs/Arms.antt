@@ -16,9 +16,9 @@ use Rattle.matching.proofs.Places.{Passing, stop_free, stop_none}
 use Rattle.matching.proofs.Stamps.{length-stamped}
 use Rattle.matching.proofs.Stack.{Goal}
 use Rattle.matching.proofs.Walk.{Slices, Stage, entering, failing, finding, Walk, Scanning}
-use Rattle.matching.proofs.Walk.{is_visited, few_visited}
+use Rattle.matching.proofs.Walk.{is_visited, few_visited, top_room, top_below}
 use Rattle.matching.proofs.Turns.{turn_free, turn_none, turn_again, turn_back, turn_on, open_new}
-use Rattle.matching.proofs.Falls.{weight, within, free_falls, none_falls, again_falls, back_falls, on_falls}
+use Rattle.matching.proofs.Falls.{weight, within, free_falls, none_falls, again_falls, on_falls}
 
 -- ---- the step on top
 
@@ -33,6 +33,25 @@ at_top {g} {mark} {depth} {v₀} {h₀} {cs₀} {ps₀} {v} {h} {cs} {ps} {r} {h
 pub record Hand (col : Pattern) (cs : List Col) (k : ℕ) (c : Col) (rs : List Row) : Type 0 where
   pub column : c ≡ get_or cs k 0
   pub rows : rs ≡ col c
+
+-- what the code reads puts them there
+pub in_hand : {cs : List Col} {k : ℕ} {c : Col} {rs : List Row} (col : Pattern) → c ≡ get_or cs k 0 → rs ≡ col c → Hand col cs k c rs
+in_hand col e f = record { column = e; rows = f }
+
+-- a column has no more rows than there may be entries
+pub hand_short : {col : Pattern} {cs : List Col} {k : ℕ} {c : Col} {rs : List Row} → ((d : Col) → length (col d) ≤ max_entries)
+    → Hand col cs k c rs → length rs ≤ max_entries
+hand_short {c = c} short H = rw H.rows (short c)
+
+-- there is room for the step on top
+pub depth_below : {g : Goal} {mark depth : ℕ} {v₀ h₀ cs₀ ps₀ v h cs ps r : List ℕ} {hit : Bool}
+    → Walk g mark v₀ h₀ cs₀ ps₀ v h cs ps r hit depth → 0 < depth → depth - 1 < g.n
+depth_below W l = top_room (at_top W l)
+
+-- its column is below n
+pub column_below : {g : Goal} {mark depth : ℕ} {v₀ h₀ cs₀ ps₀ v h cs ps r : List ℕ} {hit : Bool} {c : Col}
+    → Walk g mark v₀ h₀ cs₀ ps₀ v h cs ps r hit depth → 0 < depth → c ≡ get_or cs (depth - 1) 0 → c < g.n
+column_below W l e = omega (arith, e, top_below (at_top W l))
 
 -- the rows are below n, so the matching has a number for each
 pub rows_below : {g : Goal} {mark k : ℕ} {v₀ h₀ cs₀ ps₀ s v h cs ps r : List ℕ} {c : Col} {rs : List Row}
@@ -60,6 +79,12 @@ place_below {g} {mark} {depth} {v = v} {cs = cs} {ps = ps} {r = r} {hit = hit} {
     go W e (failing F) = F.rest.1.within
     go W e (finding F) = F.rest.1.within
 
+-- so it is one of no more than there may be entries
+pub place_short : {g : Goal} {mark depth : ℕ} {v₀ h₀ cs₀ ps₀ v h cs ps r : List ℕ} {hit : Bool} {c : Col} {rs : List Row}
+    → Walk g mark v₀ h₀ cs₀ ps₀ v h cs ps r hit depth → 0 < depth → Hand g.col cs (depth - 1) c rs → get_or v c 0 ≡ mark
+    → ((d : Col) → length (g.col d) ≤ max_entries) → get_or ps (depth - 1) 0 < max_entries
+place_short W l H e short = omega (arith, place_below W l H e, hand_short short H)
+
 -- ---- the arms
 
 -- a first visit finds a free row
@@ -77,10 +102,10 @@ arm_free W l H ne P z lq ee eb free ev eh er =
 pub arm_none : {g : Goal} {mark depth : ℕ} {v₀ h₀ cs₀ ps₀ v h cs ps r : List ℕ} {hit : Bool} {c : Col} {rs : List Row} {from q : ℕ}
     {h₁ r₁ : List ℕ} {hit₁ : Bool} {v' h' : List ℕ} → Walk g mark v₀ h₀ cs₀ ps₀ v h cs ps r hit depth → 0 < depth
     → Hand g.col cs (depth - 1) c rs → get_or v c 0 ≢ mark → Passing g.n rs from h r hit h₁ r₁ hit₁ q → from ≡ get_or h c 0
-    → length rs ≤ q → v' ≡ set v c mark → h' ≡ set h₁ c q → Scanning g mark v₀ h₀ cs₀ ps₀ v' h' cs ps r₁ hit₁ (depth - 1) 0
+    → length rs ≤ q → v' ≡ set v c mark → h' ≡ set h₁ c (length rs) → Scanning g mark v₀ h₀ cs₀ ps₀ v' h' cs ps r₁ hit₁ (depth - 1) 0
 arm_none W l H ne P z lq ev eh =
-    rw (ev, eh, P.cheap_same, P.matching_same, P.found_same, H.column)
-    (turn_none (at_top W l) (rw H.column at ne) (rw (H.rows, z, H.column) at (stop_none P lq)) (rw (H.rows, H.column) at lq))
+    rw (ev, eh, P.cheap_same, P.matching_same, P.found_same, H.rows, H.column)
+    (turn_none (at_top W l) (rw H.column at ne) (rw (H.rows, z, H.column) at (stop_none P lq)) (omega arith))
 
 -- a visit failed
 pub arm_again : {g : Goal} {mark depth : ℕ} {v₀ h₀ cs₀ ps₀ v h cs ps r : List ℕ} {hit : Bool} {c : Col} {rs : List Row} {from : ℕ}
@@ -116,10 +141,10 @@ pub record ScanReady (v cs ps r : List ℕ) (mark k : ℕ) (rs : List Row) : Typ
 
 -- where the rows are to be scanned, that is given
 pub scan_ready : {g : Goal} {mark k : ℕ} {v₀ h₀ cs₀ ps₀ v h cs ps r : List ℕ} {hit : Bool} {c : Col} {rs : List Row} {from : ℕ}
-    → Scanning g mark v₀ h₀ cs₀ ps₀ v h cs ps r hit k from → Hand g.col cs k c rs → g.n ≤ max_size → length rs ≤ max_entries
-    → ScanReady v cs ps r mark k rs
-scan_ready {g} {mark} {k} {v₀} {v = v} {cs = cs} {ps = ps} {r = r} {c = c} {rs = rs} A H small few = record {
-  short = (few, rows_below A.slices H);
+    → Scanning g mark v₀ h₀ cs₀ ps₀ v h cs ps r hit k from → Hand g.col cs k c rs → g.n ≤ max_size
+    → ((d : Col) → length (g.col d) ≤ max_entries) → ScanReady v cs ps r mark k rs
+scan_ready {g} {mark} {k} {v₀} {v = v} {cs = cs} {ps = ps} {r = r} {c = c} {rs = rs} A H small short = record {
+  short = (hand_short short H, rows_below A.slices H);
   cols = λ i l. let low = below i l in omega (arith, stamps_reach A.slices);
   room = (
     omega (arith, A.room, few_visited A.slices),
@@ -173,11 +198,3 @@ fall_again {g} {mark} {depth} {v = v} {cs = cs} l H stamp A B =
     subst (λ d. within g.n mark v (depth - 1) ≤ weight g.n mark v cs d) e
     (again_falls g.n mark (depth - 1) v cs (rw H.column at stamp)) in
     omega (arith, less, on_falls A (rw (H.rows, H.column) at B))
-
--- with a visit that found a path
-pub fall_back : {col : Pattern} {cs : List ℕ} {c : Col} {rs : List Row} (n mark depth : ℕ) (v : List ℕ) → 0 < depth
-    → Hand col cs (depth - 1) c rs → get_or v c 0 ≡ mark → weight n mark v cs (depth - 1) < weight n mark v cs depth
-fall_back {cs = cs} n mark depth v l H stamp =
-    let e : suc (depth - 1) ≡ depth = omega arith in
-    subst (λ d. weight n mark v cs (depth - 1) < weight n mark v cs d) e
-    (back_falls n mark (depth - 1) v cs (rw H.column at stamp))

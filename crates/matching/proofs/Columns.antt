@@ -22,7 +22,7 @@ use Rattle.sparse.specs.Matrix.{column, column_or, Shaped, RowsBelow}
 use Rattle.sparse.proofs.Matrix.{column_beyond}
 use Rattle.matching.specs.Matching.{search, accepted, refused, match_from, matching}
 use Rattle.matching.specs.Parts.{Fresh, EndsAt, SameBeyond}
-use Rattle.matching.specs.Search.{stamped, Cheap, is_found, moved, SearchReady, SearchEnds}
+use Rattle.matching.specs.Search.{stamped, Cheap, is_found, moved, SearchEnds}
 use Rattle.matching.proofs.Front.{agree_take, search_agree, take-moved, drop-moved}
 use Rattle.matching.proofs.Matching.{match_found, match_failed}
 use Rattle.matching.proofs.Ready.{inside_or, short_or}
@@ -96,23 +96,6 @@ going_start {n} {col} {visited} {cheap} {scol} {sat} {row2col} I short F = recor
   };
 }
 
--- then the next search can be made, with a stamp of its own
-pub going_ready : {n : ℕ} {col : Pattern} {c : Col} {v₀ h₀ s₀ a₀ m₀ visited cheap scol sat row2col : List ℕ}
-    → Going n col c v₀ h₀ s₀ a₀ m₀ visited cheap scol sat row2col → c < n
-    → SearchReady n col row2col c (c + 1) visited cheap scol sat
-going_ready G l = record {
-  inside = G.inside;
-  short = G.short;
-  below = l;
-  unstamped = λ d k e. omega (arith, G.stamps d k);
-  sound = G.sound;
-  matching_long = G.slices.matching.long;
-  stamps_long = G.slices.visited.long;
-  cheap_long = G.slices.cheap.long;
-  cols_long = G.slices.cols.long;
-  places_long = G.slices.places.long;
-}
-
 -- the search of column c ended: what it leaves of the slices
 pub record Made (n : ℕ) (col : Pattern) (c : Col) (visited cheap scol sat row2col visited' cheap' scol' sat' row2col' : List ℕ)
     (answer : Bool) : Type 0 where
@@ -124,6 +107,22 @@ pub record Made (n : ℕ) (col : Pattern) (c : Col) (visited cheap scol sat row2
   pub cols_length : length scol' ≡ length scol
   pub places_length : length sat' ≡ length sat
   pub matching_length : length row2col' ≡ length row2col
+
+-- as the search's contract says it
+pub made : {n : ℕ} {col : Pattern} {c : Col} {v h s a m v' h' s' a' m' : List ℕ} {answer : Bool}
+    → SearchEnds n col m c (c + 1) v h v' h' m' answer → (drop n s' ≡ drop n s) × (drop n a' ≡ drop n a) → length v' ≡ length v
+    → length h' ≡ length h → length s' ≡ length s → length a' ≡ length a → length m' ≡ length m
+    → Made n col c v h s a m v' h' s' a' m' answer
+made E b lv lh ls la lm = record {
+  ends = E;
+  cols_beyond = b.0;
+  places_beyond = b.1;
+  visited_length = lv;
+  cheap_length = lh;
+  cols_length = ls;
+  places_length = la;
+  matching_length = lm;
+}
 
 -- a slice that is kept, and of which then only the first n numbers change, is kept
 kept_then : {n : ℕ} {a₀ a a' : List ℕ} → Kept n a₀ a → length a' ≡ length a → drop n a' ≡ drop n a → Kept n a₀ a'
@@ -224,13 +223,12 @@ going_failed {n} {col} {c} {v = v} {m = m} {v' = v'} {m' = m'} G l M = rw verdic
 
 -- after the last the matching stands in the slice
 pub going_end : {n : ℕ} {col : Pattern} {c : Col} {v₀ h₀ s₀ a₀ m₀ v h s a m : List ℕ}
-    → Going n col c v₀ h₀ s₀ a₀ m₀ v h s a m → n ≤ c → EndsAt n v m c (matching n col)
+    → Going n col c v₀ h₀ s₀ a₀ m₀ v h s a m → n ≤ c → EndsAt n v m n (matching n col)
 unfolding match_from
-going_end {n} {col} {c} {v = v} {m = m} G l =
-    let e : c ≡ n = omega (arith, G.below) in
+going_end {n} {col} {c} {m = m} G l =
     let z : n - c ≡ 0 = omega arith in
     let w : match_from n col (n - c) c (take n m) ≡ accepted (take n m) = ap (λ (x : ℕ). match_from n col x c (take n m)) z in
-    rw (sym G.leads, w) (e, refl)
+    rw (sym G.leads, w) (refl, refl)
 
 -- ---- in storage, with no column replaced
 

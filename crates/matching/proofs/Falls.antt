@@ -76,10 +76,6 @@ none_falls {k = k} {cs = cs} W ne = omega (arith, fewer W.slices (get_or cs k 0)
 pub again_falls : (n mark k : ℕ) (v cs : List ℕ) → get_or v (get_or cs k 0) 0 ≡ mark → within n mark v k ≤ weight n mark v cs (suc k)
 again_falls n mark k v cs e = omega (arith, bump_in mark v cs (suc k) k (omega arith) e)
 
--- a row taken on the way back
-pub back_falls : (n mark k : ℕ) (v cs : List ℕ) → get_or v (get_or cs k 0) 0 ≡ mark → weight n mark v cs k < weight n mark v cs (suc k)
-back_falls n mark k v cs e = omega (arith, again_falls n mark k v cs e, small (eqb (get_or v (get_or cs (k - 1) 0) 0) mark))
-
 -- the rows scanned
 pub on_falls : {g : Goal} {mark k : ℕ} {v₀ h₀ cs₀ ps₀ v h cs ps r : List ℕ} {hit : Bool} {from : ℕ} {cs' ps' : List ℕ} {d : ℕ}
     → Scanning g mark v₀ h₀ cs₀ ps₀ v h cs ps r hit k from → Advance mark v r (g.col (get_or cs k 0)) k from cs ps cs' ps' d

@@ -1,11 +1,11 @@
 -- Each exit of `find_diag_matching`: what it returns and leaves is the outcome, and has the meaning.
 use Prim.Native.Nat.{ℕ, ◌+◌, ◌<◌, ◌≤◌}
-use mathlib.Core.Path.{◌≡◌, refl, sym, ap, ◌∙◌}
-use mathlib.Core.Bool.{Bool, true, false, ◌||◌}
+use mathlib.Core.Path.{◌≡◌, refl, ap, ◌∙◌}
+use mathlib.Core.Bool.{Bool, true, false}
 use mathlib.Core.List.{List, ◌++◌}
 use mathlib.Core.Logic.{◌⊎◌, inl, inr}
 use native.Mathlib.Omega.{arith}
-use lib.Dec.{eqb, ltb}
+use lib.Dec.{eqb}
 use lib.ListN.{length, get_or, take, drop, replicate, length-replicate}
 use lib.Seq.{drop_at, take_at}
 use Rattle.graph.specs.Counting.{bit}
@@ -18,7 +18,7 @@ use Rattle.sparse.specs.Buffers.{zeroed, filled}
 use Rattle.sparse.specs.Limits.{none, max_size}
 use Rattle.sparse.specs.Matrix.{column}
 use Rattle.sparse.specs.Parts.{ZeroBelow}
-use Rattle.sparse.specs.Refusals.{first_refusal, early, one_short, Roomy, repeated_row}
+use Rattle.sparse.specs.Refusals.{first_refusal, early, Roomy, repeated_row}
 use Rattle.sparse.specs.declared.Checked.{Checked}
 use Rattle.sparse.specs.declared.Checked.TheVariants as checked
 use Rattle.sparse.specs.declared.Refusal.{Refusal}
@@ -26,7 +26,6 @@ use Rattle.sparse.proofs.Buffers.{filled_at, front_filled, zero_below}
 use Rattle.sparse.proofs.Early.{Early, early_passed, early_passes, early_number, repeats_number}
 use Rattle.sparse.proofs.Matrix.{inside, column_once}
 use Rattle.sparse.proofs.Passing.{repeats_pass}
-use Rattle.sparse.proofs.Room.{short_more, short_last}
 use Rattle.matching.specs.Matching.{Verdict, accepted, refused, matching}
 use Rattle.matching.specs.Outcome.{Lent, lent, matching_need, buffers, cleared, Outcome, ended, unmatchable}
 use Rattle.matching.specs.Outcome.{marks_of}
@@ -224,15 +223,3 @@ verdict_means size starts rows l after answer p e f =
     let a : after ≡ (handed_out size l (matching size (column starts rows))).after = ap (λ (o : Outcome). o.after) f in
     let b : answer ≡ (handed_out size l (matching size (column starts rows))).answer = ap (λ (o : Outcome). o.answer) f in
     rw (a, b) (handed_means size starts rows l (matching size (column starts rows)) G D)
-
--- ---- the test of the buffers
-
--- the tests of the six buffers, joined two by two, are the test of the buffers
-pub room_test : (size need : ℕ) (l : Lent) (v c s a m h outputs stack₁ stack work all : Bool) → need ≡ matching_need size
-    → m ≡ ltb (length l.row2col) size → h ≡ ltb (length l.hall) size → outputs ≡ m || h
-    → s ≡ ltb (length l.scol) size → a ≡ ltb (length l.sat) size → stack₁ ≡ a || outputs → stack ≡ s || stack₁
-    → v ≡ ltb (length l.visited) need → c ≡ ltb (length l.cheap) need → work ≡ c || stack → all ≡ v || work
-    → all ≡ one_short (buffers size l)
-room_test size need l v c s a m h outputs stack₁ stack work all n em eh eo es ea e1 e2 ev ec ew et =
-    et ∙ rw (ev, ew, ec, e2, es, e1, ea, eo, em, eh, n)
-    (sym (short_more _ _ ∙ rw (short_more _ _, short_more _ _, short_more _ _, short_more _ _, short_last _)))

@@ -14,19 +14,14 @@ use Rattle.graph.proofs.Lists.{mem_get_or}
 use Rattle.graph.proofs.Search.{FirstFree, now, later, NoneFree}
 use Rattle.matching.specs.Parts.{col_at}
 
--- nothing lies between a place and itself
-pub between_none : (P : ℕ → Type 0) (i : ℕ) (k : ℕ) → i ≤ k → k < i → P k
-between_none P i k l h = absurd (omega arith)
-
 -- what holds between two places and at the second holds up to the one behind it
 pub between_more : (P : ℕ → Type 0) (i j : ℕ) → ((k : ℕ) → i ≤ k → k < j → P k) → P j → (k : ℕ) → i ≤ k → k < j + 1 → P k
 between_more P i j all here k l h = ⊎_elim (λ e. subst P (sym e) here) (all k l) (eq-or-lt_of_le (omega arith))
 
 -- ---- the scan for a free row
 
--- r is the first place from `from` on whose row is free, or behind the last place
+-- the rows from `from` on before place r are matched, and the one there is free, or it is behind the last place
 pub record FreePlace (n : ℕ) (m : List Col) (rs : List Row) (from r : ℕ) : Type 0 where
-  pub from_on : from ≤ r
   pub before : (k : ℕ) → from ≤ k → k < r → col_at m rs k < n
   pub here : r < length rs → n ≤ col_at m rs r
 
@@ -35,18 +30,7 @@ pub record Passing (n : ℕ) (rs : List Row) (from : ℕ) (h₀ m₀ : List ℕ)
   pub cheap_same : h ≡ h₀
   pub matching_same : m ≡ m₀
   pub found_same : hit ≡ hit₀
-  pub from_on : from ≤ k
   pub passed : (j : ℕ) → from ≤ j → j < k → col_at m₀ rs j < n
-
--- at its start it has passed no row
-pub pass_none : (n : ℕ) (rs : List Row) (from : ℕ) (h m : List ℕ) (hit : Bool) → Passing n rs from h m hit h m hit from
-pass_none n rs from h m hit = record {
-  cheap_same = refl;
-  matching_same = refl;
-  found_same = refl;
-  from_on = omega arith;
-  passed = between_none (λ j. col_at m rs j < n) from;
-}
 
 -- the column b of the row e at place k, as it was then
 there : {n : ℕ} {rs : List Row} {from k e b : ℕ} {h₀ m₀ h m : List ℕ} {hit₀ hit : Bool} → Passing n rs from h₀ m₀ hit₀ h m hit k
@@ -60,19 +44,18 @@ pass_more {n} {rs} {from} {k} {m₀ = m₀} P ee eb l = record {
   cheap_same = P.cheap_same;
   matching_same = P.matching_same;
   found_same = P.found_same;
-  from_on = omega (arith, P.from_on);
   passed = between_more (λ j. col_at m₀ rs j < n) from k P.passed (omega (arith, there P ee eb));
 }
 
 -- at a free row the scan stops
 pub stop_free : {n : ℕ} {rs : List Row} {from k e b : ℕ} {h₀ m₀ h m : List ℕ} {hit₀ hit : Bool} → Passing n rs from h₀ m₀ hit₀ h m hit k
     → e ≡ get_or rs k 0 → b ≡ get_or m e 0 → n ≤ b → FreePlace n m₀ rs from k
-stop_free P ee eb l = record { from_on = P.from_on; before = P.passed; here = λ _. omega (arith, there P ee eb) }
+stop_free P ee eb l = record { before = P.passed; here = λ _. omega (arith, there P ee eb) }
 
 -- behind the last row it has found none
 pub stop_none : {n : ℕ} {rs : List Row} {from k : ℕ} {h₀ m₀ h m : List ℕ} {hit₀ hit : Bool} → Passing n rs from h₀ m₀ hit₀ h m hit k
-    → length rs ≤ k → FreePlace n m₀ rs from k
-stop_none P l = record { from_on = P.from_on; before = P.passed; here = λ i. absurd (omega arith) }
+    → length rs ≤ k → FreePlace n m₀ rs from (length rs)
+stop_none P l = record { before = λ j a b. P.passed j a (omega arith); here = λ i. absurd (omega arith) }
 
 -- ---- what it says of a column's rows
 

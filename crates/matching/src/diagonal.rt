@@ -12,7 +12,7 @@ ghost use Rattle.matching.specs.Outcome.{Lent, lent, buffers, matching_need, cle
 ghost use Rattle.matching.specs.Parts.{Fresh, EndsAt, SameBeyond};
 
 use super::search::search;
-use sparse::checks::{check_early, check_repeats, is_short, or};
+use sparse::checks::{check_early, check_repeats, is_short};
 use sparse::slices::{by_column, clear, fill, put_by_column};
 use sparse::{Checked, Column, NONE, Refusal};
 
@@ -43,15 +43,12 @@ fn lacks_room(
         row2col.now hall.now)) }
 {
     let need = matching_need(size);
-    let outputs = or(is_short(row2col.len(), size), is_short(hall.len(), size));
-    let stack = or(
-        is_short(scol.len(), size),
-        or(is_short(sat.len(), size), outputs),
-    );
-    or(
-        is_short(visited.len(), need),
-        or(is_short(cheap.len(), need), stack),
-    )
+    is_short(visited.len(), need)
+        | is_short(cheap.len(), need)
+        | is_short(scol.len(), size)
+        | is_short(sat.len(), size)
+        | is_short(row2col.len(), size)
+        | is_short(hall.len(), size)
 }
 
 // A search from each column in turn. The first column whose search failed, or the size. A stamp of its own tells each search's visits
@@ -74,15 +71,13 @@ fn match_columns(
     ensures work_beyond { SameBeyond size visited.old visited.new × SameBeyond size cheap.old cheap.new
         × SameBeyond size scol.old scol.new × SameBeyond size sat.old sat.new }
 {
-    let none = &rows[0..0];
-    let mut c = 0u32;
-    while c < size {
+    for c in 0..size {
         if !search(
             size,
             starts,
             rows,
             Column(NONE),
-            none,
+            &[],
             Column(c),
             c + 1,
             visited,
@@ -93,16 +88,8 @@ fn match_columns(
         ) {
             return c;
         }
-        c += 1;
     }
-    c
-}
-
-// 1 for true and 0 for false.
-fn flag(test: bool) -> u32
-    ensures { result ≡ bit test }
-{
-    if test { 1 } else { 0 }
+    size
 }
 
 // Marks the columns that have a stamp, and no others.
@@ -110,11 +97,9 @@ pub fn mark_hall(size: u32, visited: &[u32], stamp: u32, hall: &mut [u32])
     requires { (size ≤ length visited.now) × (size ≤ length hall.old) }
     ensures { hall.new ≡ filled (table (λ c. bit (eqb (get_or visited.now c 0) stamp)) size) hall.old }
 {
-    let mut c = 0u32;
-    while c < size {
+    for c in 0..size {
         let col = Column(c);
-        put_by_column(hall, col, flag(by_column(visited, col) == stamp));
-        c += 1;
+        put_by_column(hall, col, u32::from(by_column(visited, col) == stamp));
     }
 }
 

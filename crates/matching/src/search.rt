@@ -25,14 +25,14 @@ pub fn scan_next(col: &[u32], row2col: &[u32], visited: &[u32], mark: u32, from:
     requires by_index { (k : ℕ) → k < length col.now → col_at row2col.now col.now k < length visited.now }
     ensures { OpenPlace mark visited.now row2col.now col.now from result }
 {
-    let mut k = from;
-    while k < col.len() as u32 {
+    let len = col.len() as u32;
+    for k in from..len {
         if by_column(visited, col_at(col, row2col, k)) != mark {
             return k;
         }
-        k += 1;
     }
-    k
+    // Nothing demands of a caller that it starts within the column.
+    from.max(len)
 }
 
 // Goes on from the step on top, whose rows from a place on are to be scanned: the first column that is not visited is put on the stack,
@@ -98,8 +98,7 @@ pub fn search<'a>(
             put_by_column(visited, c, mark);
             // A matched row stays matched, so the scan for a free one starts where this column's last scan stopped.
             let len = col.len() as u32;
-            let mut k = by_column(cheap, c);
-            while k < len {
+            for k in by_column(cheap, c)..len {
                 let r = row_at(col, k);
                 if size <= by_row(row2col, r) {
                     put_by_column(cheap, c, k);
@@ -108,9 +107,8 @@ pub fn search<'a>(
                     depth = top;
                     continue 'dfs_loop;
                 }
-                k += 1;
             }
-            put_by_column(cheap, c, k);
+            put_by_column(cheap, c, len);
             depth = advance(col, row2col, visited, mark, top, 0, scol, sat);
         } else if found {
             put_by_row(row2col, row_at(col, get(sat, top)), c.0);

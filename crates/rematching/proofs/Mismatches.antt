@@ -21,7 +21,7 @@ use Rattle.graph.proofs.Permutations.{permutes, length-inverse, inverse_only}
 use Rattle.sparse.specs.Limits.{max_size, none}
 use Rattle.sparse.specs.declared.Checked.TheVariants.{Passed}
 use Rattle.sparse.proofs.Refusals.{at_passed, refused_none}
-use Rattle.matching.proofs.Stamps.{Kept, kept_start, kept_set}
+use Rattle.matching.proofs.Stamps.{Kept, kept_set}
 use Rattle.rematching.specs.Checks.{mismatched_at, mismatched_row}
 use Rattle.rematching.specs.Parts.{NoneBelow}
 use Rattle.rematching.proofs.Earlier.{earlier_is, is_earlier}
@@ -100,7 +100,6 @@ perfect_passes {n} {col} m M = refused_none 15 (mismatched_at n col m) n suits
 
 -- no row before r is mismatched, and q, which was q₀, has those rows at their columns, and none at the others
 pub record Recording (n : ℕ) (col : Pattern) (m q₀ q : List ℕ) (r : Row) : Type 0 where
-  pub to : r ≤ n
   pub suits : Suits n col m r
   pub kept : Kept n q₀ q
   pub placed : (j : Row) → j < r → get_or q (partner m j) 0 ≡ j
@@ -112,21 +111,12 @@ none_below n xs e i l =
     let front : i < length (replicate n none) = omega (arith, length-replicate {A = ℕ} n none) in
     rw e (get_or-append (replicate n none) (drop n xs) 0 i front ∙ get_or-replicate n i none 0 l)
 
-pub record_start : (n : ℕ) (col : Pattern) (m q : List ℕ) → n ≤ length q → NoneBelow n q → Recording n col m q q 0
-record_start n col m q long z = record {
-  to = omega arith;
-  suits = λ j l. absurd (omega arith);
-  kept = kept_start n q long;
-  placed = λ j l. absurd (omega arith);
-  others = λ c l h. z c l;
-}
-
 -- the code's test of row r and its column c is the definition's
 pub mismatch_test : {n : ℕ} {col : Pattern} {m q₀ q : List ℕ} {r : Row} {c : Col} {t : Bool} → Recording n col m q₀ q r
     → n ≤ max_size → n ≤ length m → r < n → c ≡ partner m r
-    → t ≡ (leb n c || not (eqb (get_or q c 0) none) || not (elem r (col c))) → t ≡ mismatched_at n col m r
+    → t ≡ (leb n c || not (eqb (get_or q c 0) none) || not (elem r (col c))) → mismatched_at n col m r ≡ t
 mismatch_test {n} {col} {m} {q₀} {q} {r} {c} {t} R small long l ec et =
-    et ∙ rw (← ec) (ap (λ (b : Bool). b || not (elem r (col c))) (go (leb n c) refl))
+    sym (et ∙ rw (← ec) (ap (λ (b : Bool). b || not (elem r (col c))) (go (leb n c) refl)))
   where
     used : c < n → (b : Bool) → elem c (take r m) ≡ b → not (eqb (get_or q c 0) none) ≡ b
     used h true e =
@@ -142,16 +132,10 @@ mismatch_test {n} {col} {m} {q₀} {q} {r} {c} {t} R small long l ec et =
     go true e = refl
     go false e = used (leb-false n c e) (elem c (take r m)) refl
 
--- the column of a row that is not mismatched has a place in q
-pub record_below : {n : ℕ} {col : Pattern} {m q₀ q : List ℕ} {r : Row} {c : Col} → Recording n col m q₀ q r
-    → c ≡ partner m r → mismatched_at n col m r ≡ false → c < length q
-record_below {n} {col} {m} {r = r} R ec ok = omega (arith, ec, (suited n col m r ok).below, R.kept.long)
-
 -- one turn of the loop records row r
 pub record_more : {n : ℕ} {col : Pattern} {m q₀ q q' : List ℕ} {r c : ℕ} → Recording n col m q₀ q r → n ≤ length m → r < n
     → c ≡ partner m r → mismatched_at n col m r ≡ false → q' ≡ set q c r → Recording n col m q₀ q' (r + 1)
 record_more {n} {col} {m} {q₀} {q} {q'} {r} {c} R long l ec ok eq = record {
-  to = omega arith;
   suits = more;
   kept = rw eq (kept_set c r c_below R.kept);
   placed = λ j k. placed j k (ℕ_discrete j r);
@@ -172,15 +156,17 @@ record_more {n} {col} {m} {q₀} {q} {q'} {r} {c} R long l ec ok eq = record {
         rw eq (get_or-set_other q c (partner m j) r 0 other ∙ R.placed j (omega arith))
 
 -- after the last one every column has its row
-pub record_end : {n : ℕ} {col : Pattern} {m q₀ q : List ℕ} → Recording n col m q₀ q n → n ≤ length m → take n q ≡ inverse n m
-record_end {n} {col} {m} {q₀} {q} R long =
+pub record_end : {n : ℕ} {col : Pattern} {m q₀ q : List ℕ} {r : Row} → Recording n col m q₀ q r → n ≤ r → n ≤ length m
+    → take n q ≡ inverse n m
+record_end {n} {col} {m} {q₀} {q} R end long =
     ext_get_or 0 (take n q) (inverse n m) (size ∙ sym (length-inverse n m)) (λ c l. at c (rw size at l))
   where
     size : length (take n q) ≡ n
     size = length-take-le n q R.kept.long
 
     M : Perfect n col (partner m)
-    M = suits_perfect n col m R.suits long
+    M = suits_perfect n col m (λ j l. R.suits j (omega arith)) long
 
     at : (c : Col) → c < n → get_or (take n q) c 0 ≡ get_or (inverse n m) c 0
-    at c l = get_or-take n q c 0 l ∙ inverse_only q (permutes n m M.inside M.once) R.placed c l
+    at c l =
+        get_or-take n q c 0 l ∙ inverse_only q (permutes n m M.inside M.once) (λ j k. R.placed j (omega arith)) c l

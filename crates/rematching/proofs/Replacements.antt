@@ -86,7 +86,6 @@ fit_passes size new b o = refused_none 14 (unfit_at size new) (length new) fit
 
 -- the rows before place k are fit, and are marked in marks, which was m₀
 pub record Marking (size : ℕ) (new : List Row) (m₀ marks : List ℕ) (k : ℕ) : Type 0 where
-  pub to : k ≤ length new
   pub fit : Fit size new k
   pub kept : Kept size m₀ marks
   pub same : marks ≡ marked new 1 0 k m₀
@@ -94,35 +93,31 @@ pub record Marking (size : ℕ) (new : List Row) (m₀ marks : List ℕ) (k : �
 pub marking_start : (size : ℕ) (new : List Row) (m : List ℕ) → size ≤ length m → Marking size new m m 0
 unfolding marked
 marking_start size new m l =
-    record { to = omega arith; fit = λ j k. absurd (omega arith); kept = kept_start size m l; same = refl }
+    record { fit = λ j k. absurd (omega arith); kept = kept_start size m l; same = refl }
 
 -- there are at most n of them
-pub marking_few : {size : ℕ} {new : List Row} {m₀ marks : List ℕ} {k : ℕ} → Marking size new m₀ marks k → k ≤ size
-marking_few {size} {new} {k = k} M = fit_few size new k M.fit M.to
-
--- a fit row has a place among the marks
-pub marking_below : {size : ℕ} {new : List Row} {m₀ marks : List ℕ} {k row : ℕ} → Marking size new m₀ marks k
-    → row ≡ get_or new k 0 → unfit_at size new k ≡ false → row < length marks
-marking_below {size} {new} {k = k} M er ok = omega (arith, er, fit_row size new k ok, M.kept.long)
+pub marking_few : {size : ℕ} {new : List Row} {m₀ marks : List ℕ} {k : ℕ} → Marking size new m₀ marks k → k ≤ length new → k ≤ size
+marking_few {size} {new} {k = k} M l = fit_few size new k M.fit l
 
 -- one turn of the loop marks the row at place k
-pub marking_more : {size : ℕ} {new : List Row} {m₀ marks marks' : List ℕ} {k row : ℕ} → Marking size new m₀ marks k
-    → k < length new → row ≡ get_or new k 0 → unfit_at size new k ≡ false → marks' ≡ set marks row 1
-    → Marking size new m₀ marks' (k + 1)
+pub marking_more : {size : ℕ} {new : List Row} {m₀ marks marks' : List ℕ} {k : ℕ} → Marking size new m₀ marks k
+    → unfit_at size new k ≡ false → marks' ≡ set marks (get_or new k 0) 1 → Marking size new m₀ marks' (k + 1)
 unfolding marked
-marking_more {size} {new} {m₀} {marks} {marks'} {k} {row} M l er ok em = record {
-  to = omega arith;
+marking_more {size} {new} {k = k} M ok em = record {
   fit = below_more _ k M.fit ok;
-  kept = rw em (kept_set row 1 (rw er (fit_row size new k ok)) M.kept);
-  same = em ∙ rw (M.same, er, add-one k, zero-add k);
+  kept = rw em (kept_set (get_or new k 0) 1 (fit_row size new k ok) M.kept);
+  same = em ∙ rw (M.same, add-one k, zero-add k);
 }
 
 -- the code's test of the row at place k is the definition's
-pub unfit_test : {size : ℕ} {new : List Row} {m₀ marks : List ℕ} {k row : ℕ} {t : Bool} → Marking size new m₀ marks k
-    → ZeroBelow size m₀ → k < length new → row ≡ get_or new k 0 → t ≡ (leb size row || not (eqb (get_or marks row 0) 0))
-    → t ≡ unfit_at size new k
-unfit_test {size} {new} {m₀} {marks} {k} {row} {t} M z l er et = et ∙ rw (← er) (go (leb size row) refl)
+pub unfit_test : {size : ℕ} {new : List Row} {m₀ marks : List ℕ} {k : ℕ} {t : Bool} → Marking size new m₀ marks k
+    → ZeroBelow size m₀ → k < length new → t ≡ (leb size (get_or new k 0) || not (eqb (get_or marks (get_or new k 0) 0) 0))
+    → unfit_at size new k ≡ t
+unfit_test {size} {new} {m₀} {marks} {k} M z l et = sym (et ∙ go (leb size row) refl)
   where
+    row : Row
+    row = get_or new k 0
+
     marked_row : row < size → Listed new 0 k row ⊎ Unlisted new 0 k row → not (eqb (get_or marks row 0) 0) ≡ elem row (take k new)
     marked_row b (inl t) =
         let long : row < length m₀ = omega (arith, M.kept.long, M.kept.same_length) in

@@ -30,10 +30,7 @@ fn is_unfit(size: u32, row: OriginalRow, marks: &[u32]) -> bool
     requires { size ≤ length marks.now }
     ensures { result ≡ (leb size row.0 || not (eqb (get_or marks.now row.0 0) 0)) }
 {
-    if size <= row.0 {
-        return true;
-    }
-    by_row(marks, row) != 0
+    size <= row.0 || by_row(marks, row) != 0
 }
 
 // The first place of a replacement whose row is not below n or stands before, or its length. The rows before it are marked. Among any
@@ -43,16 +40,14 @@ fn first_unfit(size: u32, replacement: &[u32], marks: &mut [u32]) -> u32
     ensures value { result ≡ first (unfit_at size replacement.now) (length replacement.now) }
     ensures same_beyond { SameBeyond size marks.old marks.new }
 {
-    let mut k = 0u32;
-    while (k as usize) < replacement.len() {
-        let row = row_at(replacement, k);
+    for (k, row) in replacement.iter().enumerate() {
+        let row = OriginalRow(*row);
         if is_unfit(size, row, marks) {
-            return k;
+            return k as u32;
         }
         put_by_row(marks, row, 1);
-        k += 1;
     }
-    k
+    replacement.len() as u32
 }
 
 // Refusal 14, with marks for the rows that are zero; those of the rows that passed are left.
@@ -73,15 +68,9 @@ fn has_row(size: u32, starts: &[u32], rows: &[u32], c: Column, row: OriginalRow)
     requires { Shaped size starts.now rows.now × (c.0 < size) }
     ensures { result ≡ elem row.0 (column starts.now rows.now c.0) }
 {
-    let hi = get(starts, c.0 + 1);
-    let mut k = by_column(starts, c);
-    while k < hi {
-        if row_at(rows, k).0 == row.0 {
-            return true;
-        }
-        k += 1;
-    }
-    false
+    let lo = by_column(starts, c) as usize;
+    let hi = get(starts, c.0 + 1) as usize;
+    rows[lo..hi].contains(&row.0)
 }
 
 // Whether a row's column is not below n, has a row already, or lacks this one.
@@ -97,13 +86,7 @@ fn is_mismatched(
     ensures { result ≡ (leb size c.0 || not (eqb (get_or col2row.now c.0 0) none)
         || not (elem row.0 (column starts.now rows.now c.0))) }
 {
-    if size <= c.0 {
-        return true;
-    }
-    if by_column(col2row, c) != NONE {
-        return true;
-    }
-    !has_row(size, starts, rows, c, row)
+    size <= c.0 || by_column(col2row, c) != NONE || !has_row(size, starts, rows, c, row)
 }
 
 // The first row whose column is not below n, is that of an earlier row, or lacks the row; n where there is none, and then col2row has the
@@ -121,17 +104,15 @@ fn first_mismatched(
     ensures same_beyond { SameBeyond size col2row.old col2row.new }
     ensures col2row_after { size ≤ result → take size col2row.new ≡ inverse size row2col.now }
 {
-    let mut r = 0u32;
-    while r < size {
+    for r in 0..size {
         let row = OriginalRow(r);
         let c = Column(by_row(row2col, row));
         if is_mismatched(size, starts, rows, col2row, c, row) {
             return r;
         }
         put_by_column(col2row, c, r);
-        r += 1;
     }
-    r
+    size
 }
 
 // Refusal 15. Where it passes, col2row has the row of each column.

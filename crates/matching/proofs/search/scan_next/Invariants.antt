@@ -1,12 +1,9 @@
 -- `scan_next` meets its contract. The invariant: the columns of the rows passed are visited.
 use Rattle.matching.specs.Parts.{col_at}
-use lib.ListN.{length, get_or}
-use Prim.Native.Nat.{ℕ, ◌≤◌, ◌<◌, ◌-◌}
+use lib.ListN.{get_or}
+use Prim.Native.Nat.{ℕ, ◌≤◌, ◌<◌}
 use mathlib.Core.Path.{◌≡◌}
 use Rattle.matching.proofs.search.scan_next.Given as goal
 
 abbrev pub invariant-loop-k : goal.invariant-loop-k
-invariant-loop-k l = (l.from ≤ l.k) × ((j : ℕ) → l.from ≤ j → j < l.k → get_or l.visited (col_at l.row2col l.col j) 0 ≡ l.mark)
-
-abbrev pub decreases-loop-k : goal.decreases-loop-k
-decreases-loop-k l = length l.col - l.k
+invariant-loop-k l = (j : ℕ) → l.from ≤ j → j < l.k → get_or l.visited (col_at l.row2col l.col j) 0 ≡ l.mark

@@ -5,7 +5,6 @@ use Rattle.matching.proofs.Whole.{goal_of}
 use Rattle.matching.proofs.Falls.{weight}
 use Rattle.matching.proofs.Walk.{Walk}
 use Rattle.sparse.specs.Matrix.{column_or}
-use Prim.Native.Nat.{◌-◌}
 use lib.ListN.{get_or}
 use Rattle.matching.proofs.search.search.Given as goal
 
@@ -13,14 +12,10 @@ abbrev pub invariant-loop-k : goal.invariant-loop-k
 invariant-loop-k l =
     Passing l.size l.col l.initial.k l.initial.cheap l.initial.row2col l.initial.found l.cheap l.row2col l.found l.k
 
-abbrev pub decreases-loop-k : goal.decreases-loop-k
-decreases-loop-k l =
-    l.len - l.k
-
 abbrev pub invariant-dfs_loop : goal.invariant-dfs_loop
 invariant-dfs_loop l =
-    Walk (goal_of l.size (column_or l.starts l.rows l.edited.0 l.replacement) l.initial.row2col (get_or l.initial.scol 0 0)) l.mark l.initial.visited l.initial.cheap l.initial.scol l.initial.sat
-    l.visited l.cheap l.scol l.sat l.row2col l.found l.depth
+    Walk (goal_of l.size (column_or l.starts l.rows l.edited.0 l.replacement) l.initial.row2col (get_or l.initial.scol 0 0)) l.mark
+    l.initial.visited l.initial.cheap l.initial.scol l.initial.sat l.visited l.cheap l.scol l.sat l.row2col l.found l.depth
 
 abbrev pub decreases-dfs_loop : goal.decreases-dfs_loop
 decreases-dfs_loop l =

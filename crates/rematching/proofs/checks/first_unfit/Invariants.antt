@@ -1,11 +1,6 @@
 -- `first_unfit` meets its contract. The invariant: the rows before place k are fit and marked, so they are at most n.
-use Prim.Native.Nat.{◌-◌}
-use lib.ListN.{length}
 use Rattle.rematching.proofs.Replacements.{Marking}
 use Rattle.rematching.proofs.checks.first_unfit.Given as goal
 
 abbrev pub invariant-loop-k : goal.invariant-loop-k
 invariant-loop-k l = Marking l.size l.replacement l.initial.marks l.marks l.k
-
-abbrev pub decreases-loop-k : goal.decreases-loop-k
-decreases-loop-k l = length l.replacement - l.k
