@@ -20,7 +20,7 @@ use Rattle.sparse.specs.Limits.{none, max_size}
 use Rattle.sparse.specs.Matrix.{column, column_or, Shaped}
 use Rattle.sparse.proofs.Buffers.{drop-zeroed, front_filled}
 use Rattle.matching.proofs.Columns.{unedited}
-use Rattle.blocks.specs.Walk.{last_first, walked}
+use Rattle.blocks.specs.Walk.{last_first, walked, WalkEnds}
 use Rattle.blocks.specs.Cut.{second_pass, PassReady, CutReady, HoldsBlocks}
 use Rattle.blocks.specs.Form.{starts_from, block_starts}
 use Rattle.blocks.specs.Parts.{BlockEnds}
@@ -250,15 +250,17 @@ seconds_start {n} {given = given} {starts = starts} R C e l = record {
 
 -- the next listed is a column
 pub seconds_column : {n : ℕ} {col : Pattern} {m order : List Col} {v₀ cs₀ ps₀ es₀ fs₀ starts₀ v cs ps es fs starts : List ℕ} {b k i : ℕ}
-    → Seconds n col m order v₀ cs₀ ps₀ es₀ fs₀ starts₀ v cs ps es fs starts b k i → (j : ℕ) → j < i → get_or order j 0 < n
-seconds_column {n} {order = order} S j l = (S.listed (get_or order j 0)).0 (last_first_has order n j (omega (arith, S.below)))
+    {c : Col} → Seconds n col m order v₀ cs₀ ps₀ es₀ fs₀ starts₀ v cs ps es fs starts b k i → 0 < i → c ≡ get_or order (i - 1) 0 → c < n
+seconds_column {n} {order = order} {i = i} S l e =
+    subst (λ (x : ℕ). x < n) (sym e)
+    ((S.listed (get_or order (i - 1) 0)).0 (last_first_has order n (i - 1) (omega (arith, l, S.below))))
 
 -- what the walk from it enters
-entered_is : {n : ℕ} {col : Pattern} {m : List Col} {mark : ℕ} {v₀ cs₀ ps₀ es₀ fs₀ v cs ps es fs v' cs' ps' es' fs' : List ℕ} {k r : ℕ}
+entered_is : {n : ℕ} {col : Pattern} {m : List Col} {mark : ℕ} {v₀ cs₀ ps₀ es₀ fs₀ v cs ps es fs v' es' fs' : List ℕ} {k r : ℕ}
     → Pass n col m mark v₀ cs₀ ps₀ es₀ fs₀ v cs ps es fs k → (c : Col) → c < n
-    → Turn n col m c mark k v cs ps es fs v' cs' ps' es' fs' r
+    → WalkEnds n col m c mark k es fs v' es' fs' r
     → Entered n (targets col m) c (last_first es k) (last_first es' r) × Stays c (last_first es k) (last_first es' r)
-entered_is {n} {col} {m} {es = es} {fs = fs} {es' = es'} {k = k} {r = r} P c low T = (
+entered_is {n} {col} {m} {es = es} {fs = fs} {es' = es'} {k = k} {r = r} P c low W = (
   go (elem c s) refl,
   record {
     stays = λ x i. subst (Mem x) (sym is) (stays_entered walks x i);
@@ -279,7 +281,7 @@ entered_is {n} {col} {m} {es = es} {fs = fs} {es' = es'} {k = k} {r = r} P c low
     walks = rule_walks P c low
 
     is : last_first es' r ≡ walk.entered
-    is = ap (λ w. w.entered) T.ends.walks
+    is = ap (λ w. w.entered) W.walks
 
     some : (a : List Col) → Mem c a → 0 < length a
     some [] i = absurd (Memᴰ.not-nil i)
@@ -297,41 +299,41 @@ entered_is {n} {col} {m} {es = es} {fs = fs} {es' = es'} {k = k} {r = r} P c low
         (visit_entered kids n c (record { entered = s; finished = [] }) (walked es fs k) refl ∙ sym is)
 
 -- at most n columns are walked
-turn_few : {n : ℕ} {col : Pattern} {m : List Col} {c : Col} {mark k : ℕ} {v cs ps es fs v' cs' ps' es' fs' : List ℕ} {r : ℕ}
-    → Turn n col m c mark k v cs ps es fs v' cs' ps' es' fs' r → r ≤ n
-turn_few {es' = es'} {r = r} T = omega (arith, length_last_first es' r, stamped_few T.ends.stamped)
+turn_few : {n : ℕ} {col : Pattern} {m : List Col} {c : Col} {mark k : ℕ} {es fs v' es' fs' : List ℕ} {r : ℕ}
+    → WalkEnds n col m c mark k es fs v' es' fs' r → r ≤ n
+turn_few {es' = es'} {r = r} W = omega (arith, length_last_first es' r, stamped_few W.stamped)
 
 -- the end of a block can be stored where there is one
 pub seconds_room : {n : ℕ} {col : Pattern} {m order : List Col} {v₀ cs₀ ps₀ es₀ fs₀ starts₀ v cs ps es fs starts : List ℕ} {b k i : ℕ}
-    {c : Col} {v' cs' ps' es' fs' : List ℕ} {r : ℕ}
+    {c : Col} {v' es' fs' : List ℕ} {r : ℕ}
     → Seconds n col m order v₀ cs₀ ps₀ es₀ fs₀ starts₀ v cs ps es fs starts b k i → n ≤ max_size → c < n
-    → Turn n col m c second_pass k v cs ps es fs v' cs' ps' es' fs' r → k ≢ r → (b < max_size) × (b + 1 < length starts)
-seconds_room {n} {col} {m} {es = es} {starts = starts} {b = b} {k = k} {c = c} {es' = es'} {r = r} S small low T ne =
-    go (entered_is S.pass c low T).0
+    → WalkEnds n col m c second_pass k es fs v' es' fs' r → k ≢ r → (b < max_size) × (b + 1 < length starts)
+seconds_room {n} {col} {m} {es = es} {starts = starts} {b = b} {k = k} {c = c} {es' = es'} {r = r} S small low W ne =
+    go (entered_is S.pass c low W).0
   where
     go : Entered n (targets col m) c (last_first es k) (last_first es' r) → (b < max_size) × (b + 1 < length starts)
     go (old i e) = absurd (ne (sym (length_last_first es k) ∙ ap length (sym e) ∙ length_last_first es' r))
     go (new fresh a e some v) =
         let z : r ≡ length a + k =
         omega (arith, length_last_first es k, length_last_first es' r, ap length e, length-append a (last_first es k)) in
-        let l : b + 1 ≤ n = omega (arith, z, some, turn_few T, S.progress.few, S.progress.counted, length_last_first es k) in
+        let l : b + 1 ≤ n = omega (arith, z, some, turn_few W, S.progress.few, S.progress.counted, length_last_first es k) in
         (omega arith, omega (arith, S.starts_long))
 
 -- after the next listed column
 pub seconds_more : {n : ℕ} {col : Pattern} {m order : List Col} {v₀ cs₀ ps₀ es₀ fs₀ starts₀ v cs ps es fs starts : List ℕ} {b k i : ℕ}
-    {c : Col} {v' cs' ps' es' fs' starts' : List ℕ} {r b' : ℕ} (j : ℕ)
-    → Seconds n col m order v₀ cs₀ ps₀ es₀ fs₀ starts₀ v cs ps es fs starts b k i → i ≡ suc j → c ≡ get_or order j 0
+    {c : Col} {v' cs' ps' es' fs' starts' : List ℕ} {r b' : ℕ}
+    → Seconds n col m order v₀ cs₀ ps₀ es₀ fs₀ starts₀ v cs ps es fs starts b k i → 0 < i → c ≡ get_or order (i - 1) 0
     → Turn n col m c second_pass k v cs ps es fs v' cs' ps' es' fs' r
     → BlockEnds b k r starts starts' b' → length starts' ≡ length starts
-    → Seconds n col m order v₀ cs₀ ps₀ es₀ fs₀ starts₀ v' cs' ps' es' fs' starts' b' r j
-seconds_more {n} {col} {m} {order} {starts₀ = starts₀} {es = es} {starts = starts} {b = b} {k = k} {c = c} {es' = es'} {r = r}
-    j S z at T B l =
+    → Seconds n col m order v₀ cs₀ ps₀ es₀ fs₀ starts₀ v' cs' ps' es' fs' starts' b' r (i - 1)
+seconds_more {n} {col} {m} {order} {starts₀ = starts₀} {es = es} {starts = starts} {b = b} {k = k} {i = i} {c = c} {es' = es'} {r = r}
+    S some at T B l =
     let s = last_first es k in
     let s' = last_first es' r in
     let t = subst (λ x. Entered n (targets col m) x s s' × Stays x s s') at
-    (entered_is S.pass c (rw at (seconds_column S j (omega arith))) T) in
-    let P : Progress n (targets col m) order (drop (n + 1) starts₀) (last_first es k) starts b (suc j) =
-    subst (Progress n (targets col m) order (drop (n + 1) starts₀) (last_first es k) starts b) z S.progress in
+    (entered_is S.pass c (seconds_column S some at) T.ends) in
+    let P : Progress n (targets col m) order (drop (n + 1) starts₀) (last_first es k) starts b (suc (i - 1)) =
+    subst (Progress n (targets col m) order (drop (n + 1) starts₀) (last_first es k) starts b) (omega (arith, some)) S.progress in
     record {
       pass = pass_more S.pass T;
       listed = S.listed;
@@ -339,7 +341,7 @@ seconds_more {n} {col} {m} {order} {starts₀ = starts₀} {es = es} {starts = s
       starts_long = omega (arith, S.starts_long);
       starts_length = l ∙ S.starts_length;
       below = omega (arith, S.below);
-      progress = progress_more P t.0 t.1 (length_last_first es k) (length_last_first es' r) (turn_few T) B;
+      progress = progress_more P t.0 t.1 (length_last_first es k) (length_last_first es' r) (turn_few T.ends) B;
     }
 
 -- ---- the end

@@ -127,17 +127,6 @@ pass_more P T = record {
   finished_kept = kept_then P.finished_kept T.finished_length T.same.finished_beyond;
 }
 
--- from n on the slices are as they were
-pub pass_same : {n : ℕ} {col : Pattern} {m : List Col} {mark : ℕ} {v₀ cs₀ ps₀ es₀ fs₀ v cs ps es fs : List ℕ} {k : ℕ}
-    → Pass n col m mark v₀ cs₀ ps₀ es₀ fs₀ v cs ps es fs k → SameFrom n v₀ cs₀ ps₀ es₀ fs₀ v cs ps es fs
-pass_same P = record {
-  stamps_beyond = P.stamps_kept.beyond;
-  cols_beyond = P.cols_kept.beyond;
-  places_beyond = P.places_kept.beyond;
-  entered_beyond = P.entered_kept.beyond;
-  finished_beyond = P.finished_kept.beyond;
-}
-
 -- where every column below n was walked, n were
 pub pass_all : {n : ℕ} {col : Pattern} {m : List Col} {mark : ℕ} {v₀ cs₀ ps₀ es₀ fs₀ v cs ps es fs : List ℕ} {k : ℕ}
     → Pass n col m mark v₀ cs₀ ps₀ es₀ fs₀ v cs ps es fs k → ((c : Col) → c < n → Mem c (last_first es k)) → k ≡ n
@@ -159,13 +148,12 @@ rule_walks {n} {col} {m} {es = es} {fs = fs} {k = k} P c low =
 -- the columns before c were walked from, and the rule leads on from there to what it makes of all
 pub record Firsts (n : ℕ) (col : Pattern) (m : List Col) (v₀ cs₀ ps₀ es₀ fs₀ v cs ps es fs : List ℕ) (k : ℕ) (c : Col) : Type 0 where
   pub pass : Pass n col m first_pass v₀ cs₀ ps₀ es₀ fs₀ v cs ps es fs k
-  pub below : c ≤ n
   pub leads : each (visit (targets col m) n) (drop c (range n)) (walked es fs k) ≡ each (visit (targets col m) n) (range n) unwalked
 
 -- before the first column
 pub firsts_start : {n : ℕ} {col : Pattern} {m : List Col} {v cs ps es fs : List ℕ} → PassReady n col m first_pass v cs ps es fs
     → Firsts n col m v cs ps es fs v cs ps es fs 0 0
-firsts_start R = record { pass = pass_start R; below = omega arith; leads = refl }
+firsts_start R = record { pass = pass_start R; leads = refl }
 
 -- column c is the next
 range_next : (n : ℕ) (c : Col) → c < n → drop c (range n) ≡ c ∷ drop (c + 1) (range n)
@@ -185,7 +173,6 @@ firsts_more {n} {col} {m} {es = es} {fs = fs} {k = k} {c = c} F l T =
     let go = visit (targets col m) n in
     record {
       pass = pass_more F.pass T;
-      below = omega arith;
       leads =
           ap (λ w. each go (drop (c + 1) (range n)) w) T.ends.walks
           ∙ sym (ap (λ cs. each go cs (walked es fs k)) (range_next n c l)) ∙ F.leads;

@@ -87,8 +87,7 @@ pub fn finish_columns<'a>(
         finished.old visited.new scol.new sat.new entered.new finished.new }
 {
     let mut count = 0u32;
-    let mut c = 0u32;
-    while c < size {
+    for c in 0..size {
         count = walk_new(
             size,
             starts,
@@ -105,7 +104,6 @@ pub fn finish_columns<'a>(
             entered,
             finished,
         );
-        c += 1;
     }
 }
 
@@ -146,19 +144,16 @@ pub fn cut_blocks<'a>(
         scratch.old visited.new scol.new sat.new entered.new scratch.new }
 {
     clear(blockstarts, size + 1);
-    let none = &rows[0..0];
     let mut blocks = 0u32;
     let mut count = 0u32;
-    let mut i = size;
-    while 0 < i {
-        i -= 1;
+    for i in (0..size).rev() {
         let c = column_at(finished, i);
         let end = walk_new(
             size,
             starts,
             rows,
             Column(NONE),
-            none,
+            &[],
             row2col,
             c,
             SECOND_PASS,

@@ -1,5 +1,4 @@
 pub mod Outcome
 pub mod EditSamples
-pub mod Tested
 pub mod EditedEntries
 pub mod ValidEdit

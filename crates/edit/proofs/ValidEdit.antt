@@ -16,14 +16,13 @@ use Rattle.graph.proofs.Permutations.{permutes}
 use Rattle.sparse.specs.Buffers.{zeroed, filled}
 use Rattle.sparse.specs.Matrix.{column_or}
 use Rattle.sparse.specs.Refusals.{Roomy}
-use Rattle.sparse.proofs.Buffers.{zero_below, length-zeroed, drop-zeroed, front_filled}
+use Rattle.sparse.proofs.Buffers.{drop-zeroed, front_filled}
 use Rattle.matching.specs.Matching.{Verdict, accepted, refused}
 use Rattle.matching.specs.Outcome.{marks_of}
 use Rattle.matching.specs.Parts.{EndsAt, SameBeyond}
 use Rattle.matching.proofs.Ready.{short_or}
 use Rattle.blocks.specs.Cut.{HoldsBlocks}
 use Rattle.blocks.specs.Reverse.{entries, Reversible}
-use Rattle.rematching.specs.Parts.{Unused}
 use Rattle.rematching.specs.Rematching.{rematching}
 use Rattle.triangular.specs.Outcome.{Work, work, Outputs, outputs, Lent, lent, cleared, form_need, starts_need, work_buffers}
 use Rattle.triangular.specs.Outcome.{output_buffers, ended, unmatchable}
@@ -38,20 +37,6 @@ use Rattle.edit.proofs.Outcome.{given_inside, decides}
 use Rattle.edit.proofs.EditedEntries.{replacement_few, entries_roomy, edited_once}
 
 -- ---- before the search
-
--- stamps and cheap places that were cleared are unused, and there is room
-pub edit_unused : {size : ℕ} {starts : List ℕ} {rows : List Row} {e : Col} {new : List Row} {l : Lent} {v h : List ℕ}
-    → Given size starts rows e new l → v ≡ zeroed size l.inner.visited → h ≡ zeroed size l.inner.cheap
-    → Unused size v h l.inner.scol l.inner.sat l.outer.row2col
-edit_unused {size} {l = l} G f g = record {
-  unvisited = rw f (zero_below size size l.inner.visited (omega arith));
-  unlooked = rw g (zero_below size size l.inner.cheap (omega arith));
-  visited_long = omega (arith, ap length f, length-zeroed size l.inner.visited G.room.0, G.room.0);
-  cheap_long = omega (arith, ap length g, length-zeroed size l.inner.cheap G.room.1.0, G.room.1.0);
-  cols_long = G.room.1.1.1.1.1.1.0;
-  places_long = G.room.1.1.1.1.1.1.1.0;
-  matching_long = G.room.1.1.1.1.1.1.1.1.0;
-}
 
 -- ---- what the search hands on
 

@@ -1,5 +1,5 @@
 // The entry of the edit.
-ghost use Rattle.std.specs.Prelude.{◌≡◌, ◌+◌, ltb, length};
+ghost use Rattle.std.specs.Prelude.{◌≡◌};
 ghost use Rattle.sparse.specs.Matrix.{Shaped, RowsBelow};
 ghost use Rattle.sparse.specs.Refusals.{Roomy};
 ghost use Rattle.triangular.specs.Outcome.{Work, work, outputs, lent, buffers, cleared, ended};
@@ -12,16 +12,6 @@ use sparse::slices::clear;
 use sparse::{Checked, Column};
 use triangular::BlockAnswer;
 use triangular::form::{clear_work, lacks_room};
-
-// Whether a slice is shorter than a sum, which need not fit a number.
-fn is_less_sum(len: usize, a: usize, b: usize) -> bool
-    ensures { result ≡ ltb len (a + b) }
-{
-    if len < b {
-        return true;
-    }
-    len - b < a
-}
 
 // The edit of a matrix that refusals 1, 2, 5 and 3 let through. What the workspace holds afterwards is the caller's to clear.
 fn edit_tested<'a>(
@@ -125,7 +115,7 @@ pub fn edit_column<'a>(
         backrows.new scol.new sat.new) (outputs row2col.new hall.new
         blockcols.new blockstarts.new)) result }
 {
-    let few = is_less_sum(backrows.len(), rows.len(), size as usize);
+    let few = backrows.len() < rows.len() + size as usize;
     let short = lacks_room(
         size,
         few,

@@ -14,34 +14,16 @@ use Rattle.graph.proofs.Permutations.{length-inverse, inverse-inverse}
 use Rattle.sparse.specs.Buffers.{zeroed, filled}
 use Rattle.sparse.specs.Limits.{max_size, max_entries}
 use Rattle.sparse.specs.Matrix.{column, Shaped}
-use Rattle.sparse.proofs.Buffers.{zero_below, drop-zeroed, drop-filled, filled_at}
+use Rattle.sparse.proofs.Buffers.{drop-zeroed, drop-filled, filled_at}
 use Rattle.blocks.specs.Walk.{last_first, SameFrom}
 use Rattle.blocks.specs.Reverse.{entries, Reversible, ReverseRoom, Reversed}
-use Rattle.blocks.specs.Cut.{first_pass, second_pass, PassReady, Finished, HoldsBlocks}
+use Rattle.blocks.specs.Cut.{second_pass, PassReady, Finished, HoldsBlocks}
 use Rattle.triangular.specs.Outcome.{Work, work, starts_need, entries_need, cleared}
 use Rattle.triangular.specs.Parts.{SameWork}
 use Rattle.blocks.proofs.Backward.{back_shaped}
 use Rattle.blocks.proofs.Joined.{targets_within, finished_unwalked, back_pattern, cut_is_blocks}
 
 -- ---- before the first pass
-
--- over stamps that were cleared the first pass may go
-pub first_ready : {n : ℕ} {col : Pattern} {m stamps cs ps es fs : List ℕ} (stamps₀ : List ℕ) → Reversible n col m → stamps ≡
-    zeroed n stamps₀
-    → n ≤ length stamps → n ≤ length cs → n ≤ length ps → n ≤ length es → n ≤ length fs → PassReady n col m first_pass stamps cs
-    ps es fs
-first_ready {n} stamps₀ R e ls lc lp le lf = record {
-  inside = R.inside;
-  short = R.short;
-  matched = R.permutes.below;
-  unwalked = λ c l h. omega (arith, ap (λ (t : List ℕ). get_or t c 0) e, zero_below n n stamps₀ (omega arith) c l);
-  matching_long = R.matching_long;
-  stamps_long = ls;
-  cols_long = lc;
-  places_long = lp;
-  entered_long = le;
-  finished_long = lf;
-}
 
 -- ---- before the reversed graph
 

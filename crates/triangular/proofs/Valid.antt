@@ -10,12 +10,10 @@ use Rattle.graph.specs.Matchings.{Row, Col, Perfect, partner}
 use Rattle.graph.specs.Blocks.{targets, blocks}
 use Rattle.graph.proofs.Matchings.{perfect_agree}
 use Rattle.graph.proofs.Permutations.{permutes}
-use Rattle.sparse.specs.Buffers.{zeroed}
 use Rattle.sparse.specs.Limits.{none, max_entries}
 use Rattle.sparse.specs.Matrix.{column, column_or, Shaped}
 use Rattle.sparse.specs.Refusals.{first_refusal, early}
 use Rattle.sparse.specs.declared.Checked.TheVariants as checked
-use Rattle.sparse.proofs.Buffers.{zeroed_again}
 use Rattle.sparse.proofs.Matrix.{inside, column_beyond}
 use Rattle.matching.specs.Matching.{matching}
 use Rattle.matching.specs.Parts.{SameBeyond}
@@ -95,11 +93,6 @@ accepted_cleared {size} {starts} {rows} new w u x S A B =
     same_cleared size (length rows) u x (subst (λ k. SameWork size k u x) few B) ∙ same_cleared size (length rows) w u A
 
 -- ---- the entry
-
--- stamps cleared before a check that leaves them are cleared again with the rest
-pub cleared_first : (size k : ℕ) (w : Work) (v v' : List ℕ) → v ≡ zeroed size w.visited → v' ≡ v
-    → cleared size k (work v' w.cheap w.finished w.col2row w.backstarts w.backrows w.scol w.sat) ≡ cleared size k w
-cleared_first size k w v v' e f = rw (zeroed_again size w.visited v v' e (rw f))
 
 -- what is formed, with the workspace cleared
 pub tested_exit : (size : ℕ) (starts : List ℕ) (rows : List Row) (l : Lent) (w : Work) (o : Outputs) (answer : BlockAnswer)

@@ -7,9 +7,7 @@ ghost use Rattle.matching.specs.Matching.{matching};
 ghost use Rattle.triangular.specs.Outcome.{Work, work, outputs, lent, buffers, cleared};
 ghost use Rattle.triangular.specs.Outcome.{handed_out, formed, outcome, ended, Given, Means};
 
-use super::form::{
-    BlockAnswer, clear_blocks, clear_work, entries_need, is_less, lacks_room, pass_on,
-};
+use super::form::{BlockAnswer, clear_blocks, clear_work, entries_need, lacks_room, pass_on};
 use super::matched::block_matched;
 use matching::MatchingAnswer;
 use matching::diagonal::match_valid;
@@ -52,13 +50,12 @@ pub fn block_valid(
         clear_blocks(size, blockcols, blockstarts);
         return pass_on(matched);
     };
-    let none = &rows[0..0];
     let count = block_matched(
         size,
         starts,
         rows,
         Column(NONE),
-        none,
+        &[],
         row2col,
         visited,
         cheap,
@@ -159,7 +156,7 @@ pub fn find_block_diag_form(
         backstarts.new backrows.new scol.new sat.new) (outputs row2col.new
         hall.new blockcols.new blockstarts.new)) result }
 {
-    let few = is_less(backrows.len(), entries_need(rows.len()));
+    let few = backrows.len() < entries_need(rows.len());
     let short = lacks_room(
         size,
         few,

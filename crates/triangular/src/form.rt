@@ -8,7 +8,6 @@ ghost use Rattle.triangular.specs.Outcome.{work, outputs, lent, form_need, start
 ghost use Rattle.triangular.specs.Outcome.{buffers, cleared, passed_on};
 
 use matching::MatchingAnswer;
-use sparse::checks::{is_short, or};
 use sparse::slices::{by_row, clear, put_by_column};
 use sparse::{Column, OriginalRow, Refusal};
 
@@ -40,13 +39,6 @@ pub fn entries_need(entries: usize) -> usize
     entries
 }
 
-// Whether a slice is shorter than a need that may be larger than any size.
-pub fn is_less(len: usize, need: usize) -> bool
-    ensures { result ≡ ltb len need }
-{
-    len < need
-}
-
 // Whether a slice of the workspace or of the stack is shorter than its need; the caller has tested the reversed graph's rows.
 fn lacks_work(
     size: u32,
@@ -63,17 +55,15 @@ fn lacks_work(
         → result ≡ one_short (work_buffers size entries (work visited.now cheap.now finished.now
         col2row.now backstarts.now backrows scol.now sat.now)) }
 {
-    let need = form_need(size);
-    let stack = or(is_short(scol.len(), need), is_short(sat.len(), need));
-    let back = or(is_less(backstarts.len(), starts_need(size)), or(few, stack));
-    let last = or(
-        is_short(finished.len(), need),
-        or(is_short(col2row.len(), need), back),
-    );
-    or(
-        is_short(visited.len(), need),
-        or(is_short(cheap.len(), need), last),
-    )
+    let need = form_need(size) as usize;
+    (visited.len() < need)
+        | (cheap.len() < need)
+        | (finished.len() < need)
+        | (col2row.len() < need)
+        | (backstarts.len() < starts_need(size))
+        | few
+        | (scol.len() < need)
+        | (sat.len() < need)
 }
 
 // Whether an output is shorter than its need.
@@ -87,15 +77,11 @@ fn lacks_outputs(
     ensures { result ≡ one_short (output_buffers size (outputs row2col.now hall.now blockcols.now
         blockstarts.now)) }
 {
-    let need = form_need(size);
-    let last = or(
-        is_short(blockcols.len(), need),
-        is_less(blockstarts.len(), starts_need(size)),
-    );
-    or(
-        is_short(row2col.len(), need),
-        or(is_short(hall.len(), need), last),
-    )
+    let need = form_need(size) as usize;
+    (row2col.len() < need)
+        | (hall.len() < need)
+        | (blockcols.len() < need)
+        | (blockstarts.len() < starts_need(size))
 }
 
 // Whether a buffer is shorter than its need; the caller has tested the reversed graph's rows.
@@ -119,13 +105,9 @@ pub fn lacks_room(
         col2row.now backstarts.now backrows scol.now sat.now)
         (outputs row2col.now hall.now blockcols.now blockstarts.now))) }
 {
-    let inner = lacks_work(
+    lacks_work(
         size, few, visited, cheap, finished, col2row, backstarts, scol, sat,
-    );
-    or(
-        inner,
-        lacks_outputs(size, row2col, hall, blockcols, blockstarts),
-    )
+    ) | lacks_outputs(size, row2col, hall, blockcols, blockstarts)
 }
 
 // The workspace and the stack become zero over their needs.
@@ -176,10 +158,8 @@ pub fn invert_matching(size: u32, row2col: &[u32], col2row: &mut [u32])
     requires permutes { Permutes size row2col.now }
     ensures { col2row.new ≡ filled (inverse size row2col.now) col2row.old }
 {
-    let mut r = 0u32;
-    while r < size {
+    for r in 0..size {
         put_by_column(col2row, Column(by_row(row2col, OriginalRow(r))), r);
-        r += 1;
     }
 }
 

@@ -16,15 +16,6 @@ use blocks::reverse::reverse_graph;
 use sparse::Column;
 use sparse::slices::{clear, get};
 
-// The first k numbers of a slice.
-fn front<'a>(s: &'a [u32], k: u32) -> &'a [u32]
-    requires { k ≤ length s.now }
-    ensures { result.now ≡ take k s.now }
-{
-    let end = k as usize;
-    &s[0..end]
-}
-
 // The second pass over the reversed graph, which fills the front of its two slices.
 fn cut_matched(
     size: u32,
@@ -51,12 +42,11 @@ fn cut_matched(
     ensures same_from { SameFrom size visited.old scol.old sat.old blockcols.old
         cheap.old visited.new scol.new sat.new blockcols.new cheap.new }
 {
-    let from = front(backstarts, size + 1);
-    let list = front(backrows, get(backstarts, size));
+    let end = get(backstarts, size) as usize;
     cut_blocks(
         size,
-        from,
-        list,
+        &backstarts[..size as usize + 1],
+        &backrows[..end],
         row2col,
         finished,
         visited,

@@ -8,6 +8,3 @@ abbrev pub invariant-loop-i : goal.invariant-loop-i
 invariant-loop-i l =
     Seconds l.size (column_or l.starts l.rows 4294967295 []) l.row2col l.finished l.initial.visited l.initial.scol l.initial.sat l.initial.entered l.initial.scratch l.initial.blockstarts
     l.visited l.scol l.sat l.entered l.scratch l.blockstarts l.blocks l.count l.i
-
-abbrev pub decreases-loop-i : goal.decreases-loop-i
-decreases-loop-i l = l.i

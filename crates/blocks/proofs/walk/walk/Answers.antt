@@ -12,10 +12,6 @@ use mathlib.Core.Path.{◌≡◌, sym, ◌∙◌}
 use Prim.Native.Nat.{◌≤◌, ◌<◌, ◌+◌, ◌-◌}
 use Rattle.blocks.proofs.walk.walk.Goals as goal
 
-pub put_column-requires : goal.put_column-requires
-put_column-requires c =
-    omega (arith, c.requires.walk_ready.below, c.requires.walk_ready.cols_long)
-
 pub loop-depth-init : goal.loop-depth-init
 loop-depth-init c =
     walk_begin c.requires.walk_ready c.put_column.ensures
@@ -197,8 +193,6 @@ loop-depth-preserved c =
     let marked : get_or c.loop-depth.visited c.column_at-c.result.0 0 ≡ c.args.mark = sym c.by_column.ensures ∙ c.if-by_column-mark.false in
     arm_on (arm_again {from = c.get-next.result + 1} c.loop-depth.invariant c.loop-depth-test.true hand marked (omega (arith, c.get-next.ensures))) hand c.advance-depth-else-by_column-mark.ensures c.leave-f-else-by_column-mark.ensures
 
-pub returns : goal.returns
-returns c = record {
-  walk_ends = (walk_done c.requires.walk_ready c.put_column.ensures (omega arith) c.loop-depth.invariant).0;
-  same_from = (walk_done c.requires.walk_ready c.put_column.ensures (omega arith) c.loop-depth.invariant).1;
-}
+pub returns-clause-walk_ends : goal.returns-clause-walk_ends
+returns-clause-walk_ends c =
+    (walk_done c.requires.walk_ready c.put_column.ensures (omega arith) c.loop-depth.invariant).0

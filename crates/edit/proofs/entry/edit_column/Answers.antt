@@ -1,6 +1,6 @@
 -- `edit_column` meets its contract: a refusal of the early checks, or what is replaced with the workspace cleared, is the outcome.
 use native.Mathlib.Omega.{arith}
-use mathlib.Core.Path.{◌≡◌, sym, ◌∙◌}
+use mathlib.Core.Path.{◌≡◌, refl, sym, ◌∙◌}
 use mathlib.Core.List.{List}
 use Rattle.sparse.specs.Refusals.{Buffer, first_refusal, early}
 use Rattle.sparse.specs.declared.Checked.TheVariants as checked
@@ -21,7 +21,7 @@ returns-in-Refused c =
     let buffers_at : List Buffer = buffers c.args.size (edit_entries c.args.size c.args.rows.now) lent_at in
     let early_at : Checked = first_refusal (early c.args.size c.args.starts.now c.args.rows.now buffers_at) in
     let found : c.check_early-first.result ≡ early_at = c.check_early-first.ensures buffers_at (c.lacks_room-short.ensures c.args.backrows.now
-    (edit_entries c.args.size c.args.rows.now) c.is_less_sum-few.ensures) in
+    (edit_entries c.args.size c.args.rows.now) refl) in
     let e = early_outcome c.args.size c.args.starts.now c.args.rows.now c.args.edited.0 c.args.replacement.now lent_at _ (sym found ∙ c.in-Refused.is) in record {
       outcome = e;
       meaning = outcome_means c.args.size c.args.starts.now c.args.rows.now c.args.edited.0 c.args.replacement.now lent_at _ _ e;
@@ -36,7 +36,7 @@ edit_tested-answer-requires c =
     let buffers_at : List Buffer = buffers c.args.size (edit_entries c.args.size c.args.rows.now) lent_at in
     let early_at : Checked = first_refusal (early c.args.size c.args.starts.now c.args.rows.now buffers_at) in
     let found : c.check_early-first.result ≡ early_at = c.check_early-first.ensures buffers_at (c.lacks_room-short.ensures c.args.backrows.now
-    (edit_entries c.args.size c.args.rows.now) c.is_less_sum-few.ensures) in
+    (edit_entries c.args.size c.args.rows.now) refl) in
     let none_refused : early_at ≡ checked.Passed = sym found ∙ c.in_default.is in
     let passed : (Early c.args.size c.args.starts.now c.args.rows.now buffers_at) = early_passed c.args.size c.args.starts.now c.args.rows.now buffers_at
     none_refused in record {
@@ -53,7 +53,7 @@ overflow_cast-rows c =
     let buffers_at : List Buffer = buffers c.args.size (edit_entries c.args.size c.args.rows.now) lent_at in
     let early_at : Checked = first_refusal (early c.args.size c.args.starts.now c.args.rows.now buffers_at) in
     let found : c.check_early-first.result ≡ early_at = c.check_early-first.ensures buffers_at (c.lacks_room-short.ensures c.args.backrows.now
-    (edit_entries c.args.size c.args.rows.now) c.is_less_sum-few.ensures) in
+    (edit_entries c.args.size c.args.rows.now) refl) in
     let none_refused : early_at ≡ checked.Passed = sym found ∙ c.in_default.is in
     let passed : (Early c.args.size c.args.starts.now c.args.rows.now buffers_at) = early_passed c.args.size c.args.starts.now c.args.rows.now buffers_at
     none_refused in
@@ -68,7 +68,7 @@ overflow_add-rows c =
     let buffers_at : List Buffer = buffers c.args.size (edit_entries c.args.size c.args.rows.now) lent_at in
     let early_at : Checked = first_refusal (early c.args.size c.args.starts.now c.args.rows.now buffers_at) in
     let found : c.check_early-first.result ≡ early_at = c.check_early-first.ensures buffers_at (c.lacks_room-short.ensures c.args.backrows.now
-    (edit_entries c.args.size c.args.rows.now) c.is_less_sum-few.ensures) in
+    (edit_entries c.args.size c.args.rows.now) refl) in
     let none_refused : early_at ≡ checked.Passed = sym found ∙ c.in_default.is in
     let passed : (Early c.args.size c.args.starts.now c.args.rows.now buffers_at) = early_passed c.args.size c.args.starts.now c.args.rows.now buffers_at
     none_refused in
@@ -83,7 +83,7 @@ clear_work-requires c =
     let buffers_at : List Buffer = buffers c.args.size (edit_entries c.args.size c.args.rows.now) lent_at in
     let early_at : Checked = first_refusal (early c.args.size c.args.starts.now c.args.rows.now buffers_at) in
     let found : c.check_early-first.result ≡ early_at = c.check_early-first.ensures buffers_at (c.lacks_room-short.ensures c.args.backrows.now
-    (edit_entries c.args.size c.args.rows.now) c.is_less_sum-few.ensures) in
+    (edit_entries c.args.size c.args.rows.now) refl) in
     let none_refused : early_at ≡ checked.Passed = sym found ∙ c.in_default.is in
     let passed : (Early c.args.size c.args.starts.now c.args.rows.now buffers_at) = early_passed c.args.size c.args.starts.now c.args.rows.now buffers_at
     none_refused in record {
@@ -105,7 +105,7 @@ returns c =
     let buffers_at : List Buffer = buffers c.args.size (edit_entries c.args.size c.args.rows.now) lent_at in
     let early_at : Checked = first_refusal (early c.args.size c.args.starts.now c.args.rows.now buffers_at) in
     let found : c.check_early-first.result ≡ early_at = c.check_early-first.ensures buffers_at (c.lacks_room-short.ensures c.args.backrows.now
-    (edit_entries c.args.size c.args.rows.now) c.is_less_sum-few.ensures) in
+    (edit_entries c.args.size c.args.rows.now) refl) in
     let none_refused : early_at ≡ checked.Passed = sym found ∙ c.in_default.is in record {
       outcome = (tested_exit c.args.size c.args.starts.now c.args.rows.now c.args.edited.0 c.args.replacement.now lent_at (work _ _ _ _ _ _ _ _) (outputs _ _ _ _) _ none_refused (c.clear_work.ensures ∙ c.edit_tested-answer.ensures.sat_unchanged) c.edit_tested-answer.ensures.blockstarts_after).0;
       meaning = (tested_exit c.args.size c.args.starts.now c.args.rows.now c.args.edited.0 c.args.replacement.now lent_at (work _ _ _ _ _ _ _ _) (outputs _ _ _ _) _ none_refused (c.clear_work.ensures ∙ c.edit_tested-answer.ensures.sat_unchanged) c.edit_tested-answer.ensures.blockstarts_after).1;

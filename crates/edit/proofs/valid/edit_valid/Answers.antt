@@ -1,94 +1,13 @@
 -- `edit_valid` meets its contract: a search that failed is refused with its stamps as marks, and a path found is cut into blocks.
-use Rattle.edit.proofs.ValidEdit.{Searched, edit_unused, cleared_beyond, searched_reversible, searched_room}
-use Rattle.edit.proofs.ValidEdit.{searched_accepted, searched_refused, searched_cleared, passed_cleared}
+use Rattle.edit.proofs.ValidEdit.{Searched, cleared_beyond, searched_reversible, searched_room}
+use Rattle.edit.proofs.ValidEdit.{searched_accepted, searched_refused, passed_cleared}
 use Rattle.edit.proofs.EditedEntries.{entries_few}
 use Rattle.triangular.specs.Outcome.{Lent, work, outputs, lent}
-use mathlib.Core.Path.{◌∙◌}
 use native.Mathlib.Omega.{arith}
 use Rattle.edit.proofs.valid.edit_valid.Goals as goal
 
-pub rematch-end-requires : goal.rematch-end-requires
-rematch-end-requires c = record {
-  shaped = (c.requires.given.valid.shaped, c.requires.given.valid.below);
-  editable = c.requires.given.editable;
-  row_value = c.by_column.ensures ∙ c.requires.edited_value;
-  unused = edit_unused c.requires.given c.clear.ensures c.clear-2.ensures;
-}
-
-pub refuse_edit-requires : goal.refuse_edit-requires
-refuse_edit-requires c =
-    -- what is lent
-    let lent_at : Lent = lent (work c.args.visited.now c.args.cheap.now c.args.finished.now c.args.col2row.now
-    c.args.backstarts.now c.args.backrows.now c.args.scol.now c.args.sat.now)
-    (outputs c.args.row2col.now c.args.hall.now c.args.blockcols.now c.args.blockstarts.now) in
-    -- it leaves what the rest needs
-    let searched : (Searched c.args.size c.args.starts.now c.args.rows.now c.args.edited.0
-    c.args.replacement.now lent_at c.rematch-end.result c.rematch-end.new.visited
-    c.rematch-end.new.cheap c.rematch-end.new.scol
-    c.rematch-end.new.sat c.rematch-end.new.row2col) = record {
-      given = c.requires.given;
-      ends = c.rematch-end.ensures.ends_at;
-      kept = c.rematch-end.ensures.row2col_unchanged;
-      matching = c.rematch-end.ensures.same_beyond;
-      visited = cleared_beyond c.args.size c.args.visited.now _ _ c.clear.ensures
-          c.rematch-end.ensures.work_beyond.0;
-      cheap = cleared_beyond c.args.size c.args.cheap.now _ _ c.clear-2.ensures
-          c.rematch-end.ensures.work_beyond.1;
-      cols = c.rematch-end.ensures.work_beyond.2;
-      places = c.rematch-end.ensures.work_beyond.3;
-      matching_length = c.rematch-end.auto.row2col;
-      visited_length = omega (arith, c.rematch-end.auto.visited, c.clear.auto.s);
-      cheap_length = omega (arith, c.rematch-end.auto.cheap, c.clear-2.auto.s);
-      cols_length = c.rematch-end.auto.scol;
-      places_length = c.rematch-end.auto.sat;
-    } in record {
-      size_le_max_size = (
-        searched.given.valid.shaped.small,
-        c.if-end-size.true,
-        omega (arith, searched.visited_length, searched.given.room.0),
-        searched.given.room.1.1.1.1.1.1.1.1.1.0,
-      );
-      size_in_bounds = (
-        searched.given.room.1.1.1.1.1.1.1.1.1.1.0,
-        searched.given.room.1.1.1.1.1.1.1.1.1.1.1.0,
-      );
-    }
-
-pub returns-then-end-size : goal.returns-then-end-size
-returns-then-end-size c =
-    -- what is lent
-    let lent_at : Lent = lent (work c.args.visited.now c.args.cheap.now c.args.finished.now c.args.col2row.now
-    c.args.backstarts.now c.args.backrows.now c.args.scol.now c.args.sat.now)
-    (outputs c.args.row2col.now c.args.hall.now c.args.blockcols.now c.args.blockstarts.now) in
-    -- it leaves what the rest needs
-    let searched : (Searched c.args.size c.args.starts.now c.args.rows.now c.args.edited.0
-    c.args.replacement.now lent_at c.rematch-end.result c.rematch-end.new.visited
-    c.rematch-end.new.cheap c.rematch-end.new.scol
-    c.rematch-end.new.sat c.rematch-end.new.row2col) = record {
-      given = c.requires.given;
-      ends = c.rematch-end.ensures.ends_at;
-      kept = c.rematch-end.ensures.row2col_unchanged;
-      matching = c.rematch-end.ensures.same_beyond;
-      visited = cleared_beyond c.args.size c.args.visited.now _ _ c.clear.ensures
-          c.rematch-end.ensures.work_beyond.0;
-      cheap = cleared_beyond c.args.size c.args.cheap.now _ _ c.clear-2.ensures
-          c.rematch-end.ensures.work_beyond.1;
-      cols = c.rematch-end.ensures.work_beyond.2;
-      places = c.rematch-end.ensures.work_beyond.3;
-      matching_length = c.rematch-end.auto.row2col;
-      visited_length = omega (arith, c.rematch-end.auto.visited, c.clear.auto.s);
-      cheap_length = omega (arith, c.rematch-end.auto.cheap, c.clear-2.auto.s);
-      cols_length = c.rematch-end.auto.scol;
-      places_length = c.rematch-end.auto.sat;
-    } in record {
-      blockstarts_after = searched_refused searched c.if-end-size.true c.refuse_edit.ensures.value
-          c.refuse_edit.ensures.hall_after c.refuse_edit.ensures.blockcols_after.0
-          c.refuse_edit.ensures.blockcols_after.1;
-      sat_unchanged = searched_cleared searched;
-    }
-
-pub clear-requires-3 : goal.clear-requires-3
-clear-requires-3 c =
+pub returns-then-end-size-clause-blockstarts_after : goal.returns-then-end-size-clause-blockstarts_after
+returns-then-end-size-clause-blockstarts_after c =
     -- what is lent
     let lent_at : Lent = lent (work c.args.visited.now c.args.cheap.now c.args.finished.now c.args.col2row.now
     c.args.backstarts.now c.args.backrows.now c.args.scol.now c.args.sat.now)
@@ -114,7 +33,9 @@ clear-requires-3 c =
       cols_length = c.rematch-end.auto.scol;
       places_length = c.rematch-end.auto.sat;
     } in
-    omega (arith, searched.given.room.1.1.1.1.1.1.1.1.1.0)
+    searched_refused searched c.if-end-size.true c.refuse_edit.ensures.value
+    c.refuse_edit.ensures.hall_after c.refuse_edit.ensures.blockcols_after.0
+    c.refuse_edit.ensures.blockcols_after.1
 
 pub block_matched-count-requires : goal.block_matched-count-requires
 block_matched-count-requires c =

@@ -24,8 +24,7 @@ returns-in-Refused c =
     let buffers_at : List Buffer = buffers c.args.size (length c.args.rows.now) lent_at in
     let early_at : Checked = first_refusal (early c.args.size c.args.starts.now c.args.rows.now buffers_at) in
     let found : c.check_early-first.result ≡ early_at = c.check_early-first.ensures buffers_at (c.lacks_room-short.ensures c.args.backrows.now
-    (length c.args.rows.now) (c.is_less-few.ensures
-    ∙ ap (λ (t : ℕ). ltb (length c.args.backrows.now) t) c.entries_need.ensures)) in
+    (length c.args.rows.now) (ap (λ (t : ℕ). ltb (length c.args.backrows.now) t) c.entries_need.ensures)) in
     let e = early_outcome c.args.size c.args.starts.now c.args.rows.now lent_at _
     (sym found ∙ c.in-Refused.is) in record {
       outcome = e;
@@ -41,8 +40,7 @@ block_tested-answer-requires c =
     let buffers_at : List Buffer = buffers c.args.size (length c.args.rows.now) lent_at in
     let early_at : Checked = first_refusal (early c.args.size c.args.starts.now c.args.rows.now buffers_at) in
     let found : c.check_early-first.result ≡ early_at = c.check_early-first.ensures buffers_at (c.lacks_room-short.ensures c.args.backrows.now
-    (length c.args.rows.now) (c.is_less-few.ensures
-    ∙ ap (λ (t : ℕ). ltb (length c.args.backrows.now) t) c.entries_need.ensures)) in
+    (length c.args.rows.now) (ap (λ (t : ℕ). ltb (length c.args.backrows.now) t) c.entries_need.ensures)) in
     let none_refused : early_at ≡ checked.Passed = sym found ∙ c.in_default.is in
     let passed : (Early c.args.size c.args.starts.now c.args.rows.now buffers_at) = early_passed c.args.size c.args.starts.now c.args.rows.now buffers_at
     none_refused in record {
@@ -59,8 +57,7 @@ overflow_cast-rows c =
     let buffers_at : List Buffer = buffers c.args.size (length c.args.rows.now) lent_at in
     let early_at : Checked = first_refusal (early c.args.size c.args.starts.now c.args.rows.now buffers_at) in
     let found : c.check_early-first.result ≡ early_at = c.check_early-first.ensures buffers_at (c.lacks_room-short.ensures c.args.backrows.now
-    (length c.args.rows.now) (c.is_less-few.ensures
-    ∙ ap (λ (t : ℕ). ltb (length c.args.backrows.now) t) c.entries_need.ensures)) in
+    (length c.args.rows.now) (ap (λ (t : ℕ). ltb (length c.args.backrows.now) t) c.entries_need.ensures)) in
     let none_refused : early_at ≡ checked.Passed = sym found ∙ c.in_default.is in
     let passed : (Early c.args.size c.args.starts.now c.args.rows.now buffers_at) = early_passed c.args.size c.args.starts.now c.args.rows.now buffers_at
     none_refused in
@@ -75,8 +72,7 @@ clear_work-requires c =
     let buffers_at : List Buffer = buffers c.args.size (length c.args.rows.now) lent_at in
     let early_at : Checked = first_refusal (early c.args.size c.args.starts.now c.args.rows.now buffers_at) in
     let found : c.check_early-first.result ≡ early_at = c.check_early-first.ensures buffers_at (c.lacks_room-short.ensures c.args.backrows.now
-    (length c.args.rows.now) (c.is_less-few.ensures
-    ∙ ap (λ (t : ℕ). ltb (length c.args.backrows.now) t) c.entries_need.ensures)) in
+    (length c.args.rows.now) (ap (λ (t : ℕ). ltb (length c.args.backrows.now) t) c.entries_need.ensures)) in
     let none_refused : early_at ≡ checked.Passed = sym found ∙ c.in_default.is in
     let passed : (Early c.args.size c.args.starts.now c.args.rows.now buffers_at) = early_passed c.args.size c.args.starts.now c.args.rows.now buffers_at
     none_refused in record {
@@ -97,8 +93,7 @@ returns c =
     let buffers_at : List Buffer = buffers c.args.size (length c.args.rows.now) lent_at in
     let early_at : Checked = first_refusal (early c.args.size c.args.starts.now c.args.rows.now buffers_at) in
     let found : c.check_early-first.result ≡ early_at = c.check_early-first.ensures buffers_at (c.lacks_room-short.ensures c.args.backrows.now
-    (length c.args.rows.now) (c.is_less-few.ensures
-    ∙ ap (λ (t : ℕ). ltb (length c.args.backrows.now) t) c.entries_need.ensures)) in
+    (length c.args.rows.now) (ap (λ (t : ℕ). ltb (length c.args.backrows.now) t) c.entries_need.ensures)) in
     let none_refused : early_at ≡ checked.Passed = sym found ∙ c.in_default.is in record {
       outcome = (tested_exit c.args.size c.args.starts.now c.args.rows.now lent_at (work _ _ _ _ _ _ _ _) (outputs _ _ _ _) _ none_refused (c.clear_work.ensures ∙ c.block_tested-answer.ensures.sat_unchanged) c.block_tested-answer.ensures.blockstarts_after).0;
       meaning = (tested_exit c.args.size c.args.starts.now c.args.rows.now lent_at (work _ _ _ _ _ _ _ _) (outputs _ _ _ _) _ none_refused (c.clear_work.ensures ∙ c.block_tested-answer.ensures.sat_unchanged) c.block_tested-answer.ensures.blockstarts_after).1;
