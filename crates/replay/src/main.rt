@@ -4,17 +4,22 @@
 ghost use Rattle.std.specs.Prelude.{◌≤◌, length, IfOk};
 ghost use Rattle.io.specs.Counts.{IsPrefixLen};
 
-mod case;
+mod answer;
 mod column;
 mod diagonal;
 mod form;
+mod kind;
+mod lent;
 mod lists;
 mod order;
+mod pattern;
 mod text;
 
+use kind::Kind;
+use lists::Numbers;
 use std::io;
 use std::io::{Input, Print, Read};
-use text::read_numbers;
+use text::{Cut, read_numbers};
 
 const MAX_TEXT: usize = 163840;
 
@@ -24,48 +29,15 @@ const TEXT_ROOM: usize = 163841;
 // A text with more numbers is malformed behind them.
 const NUMBERS_ROOM: usize = 65537;
 
-// What became of a case, and how many numbers it has after its kind.
-#[derive(Clone, Copy)]
-pub struct Replayed {
-    pub is_formed: bool,
-    pub agrees: bool,
-    pub length: usize,
-}
-
-pub fn malformed() -> Replayed
-    ensures { result.length ≤ 0 }
+// Whether the next case agrees, or none where it is malformed. Each kind has its line here.
+fn replay_case(code: u32, numbers: &mut Numbers) -> Option<bool>
+    ensures { length numbers.new.rest.now ≤ length numbers.old.rest.now }
 {
-    Replayed {
-        is_formed: false,
-        agrees: false,
-        length: 0,
-    }
-}
-
-// The case that ends here, or a malformed one where the numbers end before.
-pub fn formed(numbers: &[u32], agrees: bool, end: usize) -> Replayed
-    ensures { result.length ≤ length numbers.now }
-{
-    if numbers.len() < end {
-        return malformed();
-    }
-    Replayed {
-        is_formed: true,
-        agrees,
-        length: end,
-    }
-}
-
-// The case at the start of these numbers, by its kind: each kind has its line here.
-fn replay_case(kind: u32, numbers: &[u32]) -> Replayed
-    ensures { result.length ≤ length numbers.now }
-{
-    match kind {
-        1 => order::replay_case(numbers),
-        2 => diagonal::replay_case(numbers),
-        3 => form::replay_case(numbers),
-        4 => column::replay_case(numbers),
-        _ => malformed(),
+    match Kind::try_from(code).ok()? {
+        Kind::Order => Some(order::Order::read(numbers)?.agrees()),
+        Kind::Diagonal => Some(diagonal::Diagonal::read(numbers)?.agrees()),
+        Kind::Form => Some(form::Form::read(numbers)?.agrees()),
+        Kind::Edit => Some(column::Edit::read(numbers)?.agrees()),
     }
 }
 
@@ -73,45 +45,27 @@ fn say_malformed<R: Print>(rt: &R, case: u64) -> io::Result<()> {
     println!(rt; "replay: malformed at case {case}")
 }
 
-fn say_differs<R: Print>(rt: &R, case: u64, kind: u32) -> io::Result<()> {
-    println!(rt; "case {case} (kind {kind}) differs")
-}
-
-fn say_agreed<R: Print>(rt: &R, agreed: u64, cases: u64) -> io::Result<()> {
-    println!(rt; "replay: {agreed} of {cases} cases agree")
-}
-
-// 1 for a case that agrees. A case that differs is named.
-fn counted<R: Print>(rt: &R, agrees: bool, case: u64, kind: u32) -> io::Result<u64>
-    ensures { IfOk result (λ n. n ≤ 1) }
-{
-    if agrees {
-        return Ok(1);
-    }
-    say_differs(rt, case, kind)?;
-    Ok(0)
-}
-
-// All cases, up to the first that is malformed. Where the numbers are not the whole text, the case after them is.
+// All cases, up to the first that is malformed; those that differ are named. Where the numbers are not the whole text, the case
+// after them is malformed.
 fn replay_all<R: Print>(rt: &R, numbers: &[u32], whole: bool) -> io::Result<()> {
-    let mut at: usize = 0;
+    let mut numbers = Numbers { rest: numbers };
     let mut cases = 0u64;
     let mut agreed = 0u64;
-    while at < numbers.len() {
+    while let Some(code) = numbers.number() {
         cases += 1;
-        let kind = numbers[at];
-        at += 1;
-        let case = replay_case(kind, &numbers[at..]);
-        if !case.is_formed {
+        let Some(agrees) = replay_case(code, &mut numbers) else {
             return say_malformed(rt, cases);
+        };
+        if agrees {
+            agreed += 1;
+        } else {
+            println!(rt; "case {cases} (kind {code}) differs")?;
         }
-        agreed += counted(rt, case.agrees, cases, kind)?;
-        at += case.length;
     }
     if !whole {
         return say_malformed(rt, cases + 1);
     }
-    say_agreed(rt, agreed, cases)
+    println!(rt; "replay: {agreed} of {cases} cases agree")
 }
 
 // Reads until the buffer is full or the reader ends, and says how many bytes stand at the buffer's start.
@@ -138,6 +92,6 @@ fn main(rt: HostRuntime) -> io::Result<()> {
     }
     let mut numbers = [0u32; NUMBERS_ROOM];
     let found = read_numbers(&text[..length], &mut numbers);
-    let count = found.count;
-    replay_all(&rt, &numbers[..count], found.whole)
+    let (Ok(count) | Err(Cut { count })) = found;
+    replay_all(&rt, &numbers[..count], found.is_ok())
 }

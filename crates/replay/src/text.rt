@@ -1,114 +1,94 @@
 // The decimal numbers of a text. Whatever is no digit stands between them.
-ghost use Rattle.std.specs.Prelude.{◌≡◌, ◌≤◌, [], length, take, drop};
+ghost use Rattle.std.specs.Prelude.{◌≡◌, ◌≤◌, ◌<◌, [], length, take, drop, IfSome};
 ghost use Rattle.io.specs.Counts.{IsPrefixLen};
-ghost use Rattle.replay.specs.Text.{digit_of, skipped, spelled, number_at, stored, stored_from};
+ghost use Rattle.replay.specs.Text.{digit_of, skipped, spelled, number_at, stored, stored_from, count_of};
+ghost use Rattle.std.specs.Result.{is_ok};
 
-// As much as a slice of the library holds.
-const MAX_NUMBER: u64 = 4294967295;
-
-// What stands next in a text.
+// A number of a text, and the place after its last digit.
 #[derive(Clone, Copy)]
-pub enum Next {
-    // A number, and the place after its last digit.
-    Number(u32, usize),
-    TooLarge,
-    // No more numbers.
-    End,
+pub struct Spelled {
+    pub value: u32,
+    pub end: usize,
 }
 
-// How many numbers of a text were stored, and whether these are all of them.
+// A number over 2^32 - 1.
 #[derive(Clone, Copy)]
-pub struct Numbers {
+pub struct TooLarge;
+
+// A text whose next number is too large, or finds no room. The numbers before it are stored.
+#[derive(Clone, Copy)]
+pub struct Cut {
     pub count: usize,
-    pub whole: bool,
 }
 
-// The value of a digit, and 10 for any other byte.
-fn digit_of(b: u8) -> u64
-    ensures { (result ≡ digit_of b) × (result ≤ 10) }
+// The value of a digit.
+fn digit(b: u8) -> Option<u32>
+    ensures { result ≡ digit_of b }
 {
-    if b < b'0' {
-        return 10;
-    }
-    if b'9' < b {
-        return 10;
-    }
-    (b - b'0') as u64
+    char::from(b).to_digit(10)
 }
 
-// The place of the first digit from here on, or the end.
-fn skip(text: &[u8], from: usize) -> usize
-    ensures { result ≡ skipped from (drop from text.now) }
+// The place of the first digit from here on.
+fn skip(text: &[u8], from: usize) -> Option<usize>
+    ensures value { result ≡ skipped from (drop from text.now) }
+    ensures within { IfSome result (λ start. start < length text.now) }
 {
-    let mut i = from;
-    while i < text.len() {
-        if digit_of(text[i]) < 10 {
-            return i;
+    for i in from..text.len() {
+        if digit(text[i]).is_some() {
+            return Some(i);
         }
-        i += 1;
     }
-    i
+    None
 }
 
 // The number that the digits from here on spell.
-fn spell(text: &[u8], from: usize) -> Next
+fn spell(text: &[u8], from: usize) -> Result<Spelled, TooLarge>
+    requires { from ≤ length text.now }
     ensures { result ≡ spelled 0 from (drop from text.now) }
 {
-    let mut value = 0u64;
-    let mut i = from;
-    while i < text.len() {
-        let digit = digit_of(text[i]);
-        if 9 < digit {
-            return Next::Number(value as u32, i);
-        }
-        value = value * 10 + digit;
-        if MAX_NUMBER < value {
-            return Next::TooLarge;
-        }
-        i += 1;
+    let mut value = 0u32;
+    for end in from..text.len() {
+        let Some(digit) = digit(text[end]) else {
+            return Ok(Spelled { value, end });
+        };
+        let more = u64::from(value) * 10 + u64::from(digit);
+        let Ok(more) = u32::try_from(more) else {
+            return Err(TooLarge);
+        };
+        value = more;
     }
-    Next::Number(value as u32, i)
+    Ok(Spelled {
+        value,
+        end: text.len(),
+    })
 }
 
 // The first number from here on.
-fn number_at(text: &[u8], from: usize) -> Next
+fn number_at(text: &[u8], from: usize) -> Option<Result<Spelled, TooLarge>>
     ensures { result ≡ number_at text.now from }
 {
-    let start = skip(text, from);
-    if text.len() <= start {
-        return Next::End;
-    }
-    spell(text, start)
+    let start = skip(text, from)?;
+    Some(spell(text, start))
 }
 
-// Stores the numbers of a text, up to the first that is too large, or that finds no room.
-pub fn read_numbers(text: &[u8], numbers: &mut [u32]) -> Numbers
-    ensures prefix_len { IsPrefixLen result.count numbers.new }
-    ensures whole_after { stored (take result.count numbers.new) result.whole
+// Stores the numbers of a text, up to the first that is too large, or that finds no room. Says how many there are.
+pub fn read_numbers(text: &[u8], numbers: &mut [u32]) -> Result<usize, Cut>
+    ensures prefix_len { IsPrefixLen (count_of result) numbers.new }
+    ensures whole_after { stored (take (count_of result) numbers.new) (is_ok result)
         ≡ stored_from [] (length numbers.old) text.now 0 }
 {
     let mut at: usize = 0;
-    let mut count: usize = 0;
-    while count < numbers.len() {
+    for (count, stored) in numbers.iter_mut().enumerate() {
         match number_at(text, at) {
-            Next::Number(value, next) => {
-                numbers[count] = value;
-                count += 1;
-                at = next;
+            Some(Ok(number)) => {
+                *stored = number.value;
+                at = number.end;
             }
-            Next::TooLarge => {
-                return Numbers {
-                    count,
-                    whole: false,
-                };
-            }
-            Next::End => {
-                return Numbers { count, whole: true };
-            }
+            Some(Err(TooLarge)) => return Err(Cut { count }),
+            None => return Ok(count),
         }
     }
-    Numbers {
-        count,
-        whole: false,
-    }
+    Err(Cut {
+        count: numbers.len(),
+    })
 }

@@ -1,44 +1,28 @@
-use mathlib.Core.Path.{refl, sym, ◌∙◌}
-use native.Mathlib.Omega.{arith}
-use borrow.Author.Rules.{rules}
-use lib.Seq.{length-take-le}
-use lib.ListN.{length-set}
-use Rattle.replay.proofs.Stores.{store_none, store_full, store_large, store_end, store_number}
+use Rattle.std.proofs.Common.{◌≡◌, false, length, take, Some, sym, ap, ◌∙◌, arith}
+use Rattle.std.proofs.lemmas.List.{set-get_or}
+use Rattle.replay.specs.Text.{stored}
+use Rattle.replay.proofs.Stores.{store_full, store_large, store_end, store_number}
 use Rattle.replay.proofs.text.read_numbers.Goals as goal
 
-pub loop-count-init : goal.loop-count-init
-loop-count-init c =
-    (omega arith, refl, store_none c.args.numbers.now c.args.text.now)
+pub returns-in-Some-Err-clause-whole_after : goal.returns-in-Some-Err-clause-whole_after
+returns-in-Some-Err-clause-whole_after c =
+    rw (set-get_or c.loop-count.numbers c.loop-count.count 0)
+    (sym (store_large c.loop-count.numbers c.loop-count.count c.args.text.now c.loop-count.at (omega arith)
+    (sym c.number_at.ensures ∙ c.in-Some-Err.is ∙ ap Some c.in-Some-Err.field-0-is)) ∙ c.loop-count.invariant)
 
-pub loop-count-smaller : goal.loop-count-smaller
-loop-count-smaller c = simp length-set (omega arith)
+pub returns-in-None-clause-whole_after : goal.returns-in-None-clause-whole_after
+returns-in-None-clause-whole_after c =
+    rw (set-get_or c.loop-count.numbers c.loop-count.count 0)
+    (sym (store_end c.loop-count.numbers c.loop-count.count c.args.text.now c.loop-count.at (omega arith)
+    (sym c.number_at.ensures ∙ c.in-None.is)) ∙ c.loop-count.invariant)
 
 pub loop-count-preserved : goal.loop-count-preserved
-loop-count-preserved c = (
-  simp length-set (omega arith),
-  simp length-set c.loop-count.invariant.1,
-  store_number c.loop-count.numbers c.loop-count.count c.args.text.now c.loop-count.at
-      c.loop-count-test.true (sym c.number_at.ensures ∙ c.in-Number.is)
-      ∙ c.loop-count.invariant.2,
-)
+loop-count-preserved c =
+    store_number c.loop-count.numbers c.loop-count.count c.args.text.now c.loop-count.at (omega arith)
+    (sym c.number_at.ensures ∙ c.in-Some-Ok.is ∙ ap Some c.in-Some-Ok.field-0-is) ∙ c.loop-count.invariant
 
-pub returns-in-TooLarge : goal.returns-in-TooLarge
-returns-in-TooLarge c = record {
-  prefix_len = (search rules, sym (length-take-le _ _ c.loop-count.invariant.0));
-  whole_after = sym (store_large c.loop-count.numbers c.loop-count.count c.args.text.now c.loop-count.at
-      c.loop-count-test.true (sym c.number_at.ensures ∙ c.in-TooLarge.is)) ∙ c.loop-count.invariant.2;
-}
-
-pub returns-in-End : goal.returns-in-End
-returns-in-End c = record {
-  prefix_len = (search rules, sym (length-take-le _ _ c.loop-count.invariant.0));
-  whole_after = sym (store_end c.loop-count.numbers c.loop-count.count c.args.text.now c.loop-count.at
-      c.loop-count-test.true (sym c.number_at.ensures ∙ c.in-End.is)) ∙ c.loop-count.invariant.2;
-}
-
-pub returns : goal.returns
-returns c = record {
-  prefix_len = (search rules, sym (length-take-le _ _ c.loop-count.invariant.0));
-  whole_after = sym (store_full c.loop-count.numbers c.loop-count.count c.args.text.now c.loop-count.at
-      c.loop-count-test.false) ∙ c.loop-count.invariant.2;
-}
+pub returns-clause-whole_after : goal.returns-clause-whole_after
+returns-clause-whole_after c =
+    let e : length c.loop-count.numbers ≡ c.loop-count.count = omega arith in
+    ap (λ n. stored (take n c.loop-count.numbers) false) e
+    ∙ sym (store_full c.loop-count.numbers c.loop-count.count c.args.text.now c.loop-count.at (omega arith)) ∙ c.loop-count.invariant

@@ -1,0 +1,6 @@
+-- `zeros` meets its contract.
+use Rattle.std.proofs.lemmas.List.{take-replicate}
+use Rattle.replay.proofs.lists.zeros.Goals as goal
+
+pub returns : goal.returns
+returns c = take-replicate c.args.count 4168 0 c.requires

@@ -1,0 +1,108 @@
+// The answer of a call as it is stored, and what it says of the lent buffers.
+ghost use Rattle.std.specs.Prelude.{◌≤◌, length};
+
+use super::lists::{Numbers, zeros};
+use matching::MatchingAnswer;
+use ordering::OrderAnswer;
+use sparse::Refusal;
+use triangular::BlockAnswer;
+
+// The refusals that leave every buffer as it is.
+const TOO_LARGE: u32 = 1;
+
+const BAD_STARTS: u32 = 2;
+
+const BAD_ROW: u32 = 3;
+
+const NO_ROOM: u32 = 5;
+
+// The refusal where there is no perfect matching.
+const UNMATCHED: u32 = 9;
+
+// What becomes of the lent buffers.
+#[derive(Clone, Copy)]
+pub enum Outcome {
+    Accepted,
+    // There is no perfect matching: the marks say why.
+    Unmatched,
+    // Refused before a buffer was written.
+    Untouched,
+    // Refused with the workspace zero.
+    Cleared,
+}
+
+// The number of a refusal and its place; an acceptance is 0 at 0.
+#[derive(Clone, Copy, PartialEq, Eq)]
+pub struct Answer {
+    number: u32,
+    place: u32,
+}
+
+const ACCEPTED: Answer = Answer {
+    number: 0,
+    place: 0,
+};
+
+impl Answer {
+    pub fn read<'a>(numbers: &mut Numbers<'a>) -> Option<Answer>
+        ensures { length numbers.new.rest.now ≤ length numbers.old.rest.now }
+    {
+        let number = numbers.number()?;
+        let place = numbers.number()?;
+        Some(Answer { number, place })
+    }
+
+    pub fn outcome(self) -> Outcome {
+        match self.number {
+            0 => Outcome::Accepted,
+            UNMATCHED => Outcome::Unmatched,
+            TOO_LARGE | BAD_STARTS | BAD_ROW | NO_ROOM => Outcome::Untouched,
+            _ => Outcome::Cleared,
+        }
+    }
+
+    // What a workspace slice with this need holds afterwards.
+    pub fn work(self, need: usize) -> &'static [u32]
+        requires { need ≤ 4168 }
+    {
+        match self.outcome() {
+            Outcome::Untouched => &[],
+            _ => zeros(need),
+        }
+    }
+}
+
+impl From<Refusal> for Answer {
+    fn from(refusal: Refusal) -> Answer {
+        Answer {
+            number: refusal.number,
+            place: refusal.place,
+        }
+    }
+}
+
+impl From<OrderAnswer> for Answer {
+    fn from(answer: OrderAnswer) -> Answer {
+        match answer {
+            OrderAnswer::Accepted => ACCEPTED,
+            OrderAnswer::Refused(refusal) => Answer::from(refusal),
+        }
+    }
+}
+
+impl From<MatchingAnswer> for Answer {
+    fn from(answer: MatchingAnswer) -> Answer {
+        match answer {
+            MatchingAnswer::Accepted => ACCEPTED,
+            MatchingAnswer::Refused(refusal) => Answer::from(refusal),
+        }
+    }
+}
+
+// The answer and its count of blocks, which is 0 without an acceptance.
+pub fn with_count(answer: BlockAnswer) -> (Answer, u32) {
+    match answer {
+        BlockAnswer::Accepted(count) => (ACCEPTED, count),
+        BlockAnswer::Refused(refusal) => (Answer::from(refusal), 0),
+    }
+}

@@ -1,0 +1,37 @@
+// The buffers that a call of kind 3 or 4 is lent.
+use super::lists::{JUNK, LENT, LENT_ENTRIES};
+
+#[derive(Drop)]
+pub struct Lent {
+    pub visited: [u32; LENT],
+    pub cheap: [u32; LENT],
+    pub finished: [u32; LENT],
+    pub col2row: [u32; LENT],
+    pub backstarts: [u32; LENT],
+    pub backrows: [u32; LENT_ENTRIES],
+    pub scol: [u32; LENT],
+    pub sat: [u32; LENT],
+    pub row2col: [u32; LENT],
+    pub hall: [u32; LENT],
+    pub blockcols: [u32; LENT],
+    pub blockstarts: [u32; LENT],
+}
+
+impl Lent {
+    pub fn junk() -> Lent {
+        Lent {
+            visited: [JUNK; LENT],
+            cheap: [JUNK; LENT],
+            finished: [JUNK; LENT],
+            col2row: [JUNK; LENT],
+            backstarts: [JUNK; LENT],
+            backrows: [JUNK; LENT_ENTRIES],
+            scol: [JUNK; LENT],
+            sat: [JUNK; LENT],
+            row2col: [JUNK; LENT],
+            hall: [JUNK; LENT],
+            blockcols: [JUNK; LENT],
+            blockstarts: [JUNK; LENT],
+        }
+    }
+}
