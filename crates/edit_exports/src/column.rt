@@ -77,7 +77,7 @@ pub extern "C" fn dechvorim_edit_column<'a>(
         &mut outputs,
     );
     *count = answer.unwrap_or(0);
-    let (number, at) = number_and_place(answer.map(|_| ()));
+    let (number, at) = number_and_place(&answer);
     *place = at;
     number
 }

@@ -39,7 +39,7 @@ pub extern "C" fn dechvorim_find_diag_matching(
         sat,
     };
     let answer = matching::find_diag_matching(size, starts, rows, &mut work, row2col, hall);
-    let (number, at) = number_and_place(answer);
+    let (number, at) = number_and_place(&answer);
     *place = at;
     number
 }

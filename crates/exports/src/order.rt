@@ -40,7 +40,7 @@ pub extern "C" fn dechvorim_order_simple(
         orig2new,
     };
     let answer = ordering::order_simple(size, starts, rows, &mut buffers);
-    let (number, at) = number_and_place(answer);
+    let (number, at) = number_and_place(&answer);
     *place = at;
     number
 }
