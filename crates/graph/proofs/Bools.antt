@@ -1,8 +1,5 @@
 -- Tests put together, and taken apart again.
-use Prim.Native.Nat.{ℕ}
-use mathlib.Core.Path.{◌≡◌, refl}
-use mathlib.Core.Bool.{Bool, true, false, ◌||◌, ◌&&◌}
-use native.Mathlib.Omega.{arith}
+use Rattle.std.proofs.Common.{ℕ, ◌≡◌, refl, Bool, true, false, ◌||◌, ◌&&◌, arith}
 
 -- no test is both true and false
 pub apart : (b : Bool) → b ≡ true → b ≡ false → ⊥

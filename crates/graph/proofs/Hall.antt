@@ -1,9 +1,5 @@
 -- Hall's condition: too few rows leave no perfect matching, and a failed search leaves a Hall set.
-use Prim.Native.Nat.{ℕ, suc, ◌≤◌, ◌<◌}
-use mathlib.Core.Path.{◌≡◌, refl, sym, ap, ◌∙◌}
-use mathlib.Core.Logic.{◌≢◌}
-use mathlib.Core.Bool.{Bool, true, ◌&&◌}
-use native.Mathlib.Omega.{arith}
+use Rattle.std.proofs.Common.{ℕ, suc, ◌≤◌, ◌<◌, ◌≡◌, refl, sym, ap, ◌∙◌, ◌≢◌, Bool, true, ◌&&◌, arith}
 use Rattle.graph.specs.Lists.{elem}
 use Rattle.graph.specs.Counting.{count, some, preimage}
 use Rattle.graph.specs.Matchings.{Row, Col, Pattern, Entry, Perfect, Partial}
