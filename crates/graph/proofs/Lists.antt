@@ -5,9 +5,9 @@ use Rattle.std.proofs.Common.{length, get_or}
 use mathlib.Core.Bool.{false≢true}
 use mathlib.Core.List.Memᴰ
 use native.Mathlib.Decide.{ℕ_discrete}
+use Rattle.std.proofs.lemmas.Bool.{false_from_ne_true}
 use Rattle.graph.specs.Lists.{Mem, Once, elem, keep, table, range}
 use Rattle.graph.specs.Counting.{bit, count}
-use Rattle.graph.proofs.Bools.{is_false}
 use Rattle.graph.proofs.Counting.{count_ext, count_minus, pigeon, without}
 
 -- ---- membership and its test
@@ -33,7 +33,7 @@ pub not_elem : (x : ℕ) (l : List ℕ) → elem x l ≡ false → ¬ Mem x l
 not_elem x l e i = false≢true (sym e ∙ mem_elem x l i)
 
 pub elem_not : (x : ℕ) (l : List ℕ) → ¬ Mem x l → elem x l ≡ false
-elem_not x l h = is_false (elem x l) (λ e. h (elem_mem x l e))
+elem_not x l h = false_from_ne_true (elem x l) (λ e. h (elem_mem x l e))
 
 -- a member stands at some place
 pub mem_get_or : (l : List ℕ) (x : ℕ) → Mem x l → (i : ℕ) × (i < length l) × (get_or l i 0 ≡ x)
