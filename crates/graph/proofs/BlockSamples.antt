@@ -1,6 +1,5 @@
 -- The definitions give each sample the blocks that are expected, by computing them.
-use mathlib.Core.Path.{◌≡◌, refl}
-use mathlib.Core.List.{map}
+use Rattle.std.proofs.Common.{◌≡◌, refl, map}
 use Rattle.graph.specs.Lists.{keep, table, range}
 use Rattle.graph.specs.Blocks.{finishing, cut, blocks}
 use Rattle.graph.specs.BlockSamples.{BlockSample, blocks_of, block_samples}

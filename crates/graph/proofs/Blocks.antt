@@ -1,10 +1,7 @@
 -- The blocks that two walks find are a block triangular form, and one after another a permutation of the columns.
-use Prim.Native.Nat.{ℕ, ◌<◌}
-use mathlib.Core.Path.{◌≡◌}
-use mathlib.Core.Logic.{inr, ◌↔◌, ⊎_elim}
+use Rattle.std.proofs.Common.{ℕ, ◌<◌, ◌≡◌, inr, ◌↔◌, ⊎_elim, List, [], length}
 use mathlib.Core.List.Memᴰ
-use mathlib.Core.List.{List, [], flatten}
-use lib.ListN.{length}
+use mathlib.Core.List.{flatten}
 use Rattle.graph.specs.Lists.{Mem, Once, elem, range}
 use Rattle.graph.specs.Permutations.{Permutes}
 use Rattle.graph.specs.Reachability.{here}

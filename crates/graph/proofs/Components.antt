@@ -1,9 +1,6 @@
 -- A strongly connected component: what a walk of the reversed graph enters from the latest finished of the columns that are left.
-use Prim.Native.Nat.{ℕ}
-use mathlib.Core.Path.{refl, sym}
-use mathlib.Core.Logic.{◌↔◌, ⊎_elim}
+use Rattle.std.proofs.Common.{ℕ, refl, sym, ◌↔◌, ⊎_elim, List, [], ◌∷◌}
 use mathlib.Core.List.Memᴰ
-use mathlib.Core.List.{List, [], ◌∷◌}
 use Rattle.graph.specs.Lists.{Mem, Once}
 use Rattle.graph.specs.Reachability.{Reach, here, step, Both}
 use Rattle.graph.specs.Walks.{Walked}

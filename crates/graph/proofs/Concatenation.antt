@@ -1,7 +1,5 @@
 -- Lists turned round and lists put one after another: their members, no repeats, and when they are a permutation.
-use Prim.Native.Nat.{ℕ, zero, suc, ◌<◌}
-use mathlib.Core.Path.{◌≡◌, refl, ap}
-use mathlib.Core.Logic.{◌↔◌, ⊎_elim}
+use Rattle.std.proofs.Common.{ℕ, zero, suc, ◌<◌, ◌≡◌, refl, ap, ◌↔◌, ⊎_elim, not-suc-le-zero, le_of_suc-le-suc, arith, length, get_or}
 use mathlib.Core.List.Memᴰ
 use mathlib.Core.List.{
   List,
@@ -12,9 +10,6 @@ use mathlib.Core.List.{
   reverse-cons,
   flatten,
 }
-use native.Mathlib.Nat.{not-suc-le-zero, le_of_suc-le-suc}
-use native.Mathlib.Omega.{arith}
-use lib.ListN.{length, get_or}
 use Rattle.graph.specs.Lists.{Mem, Once}
 use Rattle.graph.specs.Permutations.{Permutes}
 use Rattle.graph.specs.Blocks.{block}

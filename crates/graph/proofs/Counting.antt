@@ -1,15 +1,10 @@
 -- Counting below a bound, the pigeonhole principle, and bounded search.
-use Prim.Native.Nat.{ℕ, zero, suc, ◌+◌, ◌≤◌, ◌<◌}
-use mathlib.Core.Path.{◌≡◌, refl, sym, ap, ◌∙◌, subst}
-use mathlib.Core.Logic.{◌⊎◌, inl, inr, ◌≢◌}
-use mathlib.Core.Bool.{Bool, true, false, cond, not, ◌||◌, ◌&&◌}
-use native.Mathlib.Nat.{eq-or-lt_of_le, le_of_suc-le-suc, not-suc-le-zero}
+use Rattle.std.proofs.Common.{ℕ, zero, suc, ◌+◌, ◌≤◌, ◌<◌, ◌≡◌, refl, sym, ap, ◌∙◌, subst, ◌⊎◌, inl, inr, ◌≢◌, Bool, true, false, cond}
+use Rattle.std.proofs.Common.{not, ◌||◌, ◌&&◌, eq-or-lt_of_le, le_of_suc-le-suc, not-suc-le-zero, arith, eq-eqb, ne_eqb, eqb-true, eqb}
 use native.Mathlib.Decide.{ℕ_discrete, dec_lt}
-use native.Mathlib.Omega.{arith}
-use borrow.Author.Tests.{eq-eqb, ne_eqb, eqb-true}
-use lib.Dec.{eqb}
+use Rattle.std.proofs.lemmas.Bool.{false_from_ne_true}
 use Rattle.graph.specs.Counting.{bit, count, first, some, preimage}
-use Rattle.graph.proofs.Bools.{is_false, apart}
+use Rattle.graph.proofs.Bools.{apart}
 
 -- ---- counting
 
@@ -193,10 +188,10 @@ some_is p (suc n) e = go (some_is p n) (p n) refl e
     go ih false h t = let s = ih t in (s.0, omega (arith, s.1), s.2)
 
 pub some_none : (p : ℕ → Bool) (n : ℕ) → ((k : ℕ) → k < n → p k ≡ false) → some p n ≡ false
-some_none p n h = is_false (some p n) (λ t. let s = some_is p n t in apart (p s.0) s.2 (h s.0 s.1))
+some_none p n h = false_from_ne_true (some p n) (λ t. let s = some_is p n t in apart (p s.0) s.2 (h s.0 s.1))
 
 pub some_false : (p : ℕ → Bool) (n k : ℕ) → some p n ≡ false → k < n → p k ≡ false
-some_false p n k h l = is_false (p k) (λ t. apart (some p n) (some_at p n k l t) h)
+some_false p n k h l = false_from_ne_true (p k) (λ t. apart (some p n) (some_at p n k l t) h)
 
 -- what is found is below n and goes to c
 pub preimage_ok : (f : ℕ → ℕ) (n c i : ℕ) → i < n → f i ≡ c → (preimage f n c < n) × (f (preimage f n c) ≡ c)

@@ -1,9 +1,7 @@
 -- The second walk, of the reversed graph and in opposite finishing order, cuts the columns into the blocks of a block form.
-use Prim.Native.Nat.{ℕ, zero, suc, ◌-◌, ◌≤◌, ◌<◌}
-use mathlib.Core.Path.{◌≡◌, refl, ap}
+use Rattle.std.proofs.Common.{ℕ, zero, suc, ◌-◌, ◌≤◌, ◌<◌, ◌≡◌, refl, ap, ◌⊎◌, inl, inr, ◌↔◌, ⊎_elim, Bool, true, false, cond}
+use Rattle.std.proofs.Common.{not-suc-le-zero, arith, length, take, length-append, take_at}
 use mathlib.Core.Logic.Iff
-use mathlib.Core.Logic.{◌⊎◌, inl, inr, ◌↔◌, ⊎_elim}
-use mathlib.Core.Bool.{Bool, true, false, cond}
 use mathlib.Core.List.Memᴰ
 use mathlib.Core.List.{
   List,
@@ -13,10 +11,6 @@ use mathlib.Core.List.{
   reverse,
   flatten,
 }
-use native.Mathlib.Nat.{not-suc-le-zero}
-use native.Mathlib.Omega.{arith}
-use lib.ListN.{length, take, length-append}
-use lib.Seq.{take_at}
 use Rattle.graph.specs.Lists.{Mem, Once, elem}
 use Rattle.graph.specs.Reachability.{Reach, here, step, Both}
 use Rattle.graph.specs.Matchings.{Col}

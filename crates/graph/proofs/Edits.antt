@@ -1,13 +1,7 @@
 -- The edit of one column: a failed search leaves a Hall set, and a found path is all that changes of the matching.
-use Prim.Native.Nat.{ℕ, ◌≤◌, ◌<◌}
-use mathlib.Core.Path.{◌≡◌, refl, sym, ap, ◌∙◌}
-use mathlib.Core.Logic.{◌≢◌}
-use mathlib.Core.List.{List, []}
+use Rattle.std.proofs.Common.{ℕ, ◌≤◌, ◌<◌, ◌≡◌, refl, sym, ap, ◌∙◌, ◌≢◌, List, [], arith, eq-eqb, ne_eqb, length, length-set}
+use Rattle.std.proofs.Common.{get_or-set_same, get_or-set_other}
 use native.Mathlib.Decide.{ℕ_discrete}
-use native.Mathlib.Omega.{arith}
-use borrow.Author.Tests.{eq-eqb, ne_eqb}
-use lib.ListN.{length, length-set}
-use lib.Seq.{get_or-set_same, get_or-set_other}
 use Rattle.graph.specs.Lists.{Mem}
 use Rattle.graph.specs.Counting.{preimage}
 use Rattle.graph.specs.Matchings.{Row, Col, Pattern, Entry, Inside, Perfect, Partial, partner}

@@ -1,10 +1,6 @@
 -- The order in which a walk finishes, and what it is good for: the root of a block reaches whatever reaches it.
-use Prim.Native.Nat.{ℕ}
-use mathlib.Core.Path.{◌≡◌, refl, sym, subst}
-use mathlib.Core.Logic.{◌⊎◌, inl, inr, ⊎_elim}
-use mathlib.Core.Bool.{Bool, true, false}
+use Rattle.std.proofs.Common.{ℕ, ◌≡◌, refl, sym, subst, ◌⊎◌, inl, inr, ⊎_elim, Bool, true, false, List, [], ◌∷◌}
 use mathlib.Core.List.Memᴰ
-use mathlib.Core.List.{List, [], ◌∷◌}
 use Rattle.graph.specs.Lists.{Mem, Once, elem}
 use Rattle.graph.specs.Reachability.{Reach, here, step}
 use Rattle.graph.specs.Walks.{Walked, unwalked, enter, finish}

@@ -1,8 +1,5 @@
 -- A matching that is handed in is perfect exactly where each of its rows is right.
-use Prim.Native.Nat.{ℕ, ◌<◌}
-use mathlib.Core.Path.{◌≡◌, sym}
-use mathlib.Core.Logic.{◌≢◌, ◌↔◌, ⊎_elim}
-use native.Mathlib.Omega.{arith}
+use Rattle.std.proofs.Common.{ℕ, ◌<◌, ◌≡◌, sym, ◌≢◌, ◌↔◌, ⊎_elim, arith}
 use Rattle.graph.specs.Matchings.{Row, Col, Pattern, Entry, Perfect}
 use Rattle.graph.proofs.Counting.{tri}
 

@@ -1,14 +1,11 @@
 -- Hall's condition: too few rows leave no perfect matching, and a failed search leaves a Hall set.
-use Prim.Native.Nat.{ℕ, suc, ◌≤◌, ◌<◌}
-use mathlib.Core.Path.{◌≡◌, refl, sym, ap, ◌∙◌}
-use mathlib.Core.Logic.{◌≢◌}
-use mathlib.Core.Bool.{Bool, true, ◌&&◌}
-use native.Mathlib.Omega.{arith}
+use Rattle.std.proofs.Common.{ℕ, suc, ◌≤◌, ◌<◌, ◌≡◌, refl, sym, ap, ◌∙◌, ◌≢◌, Bool, true, ◌&&◌, arith}
+use Rattle.std.proofs.lemmas.Bool.{and_parts, and_from}
 use Rattle.graph.specs.Lists.{elem}
 use Rattle.graph.specs.Counting.{count, some, preimage}
 use Rattle.graph.specs.Matchings.{Row, Col, Pattern, Entry, Perfect, Partial}
 use Rattle.graph.specs.Hall.{RowsOf, HallSet}
-use Rattle.graph.proofs.Bools.{apart, and_left, and_right, and_both}
+use Rattle.graph.proofs.Bools.{apart}
 use Rattle.graph.proofs.Counting.{without, without_self, without_other, count_ext, count_minus, pigeon, some_at, some_is}
 use Rattle.graph.proofs.Lists.{elem_mem, mem_elem}
 use Rattle.graph.proofs.Matchings.{Matched, Unmatched, row_of}
@@ -95,13 +92,14 @@ pub neighbour_rows : (n : ℕ) (col : Pattern) (h : Col → Bool) → RowsOf n c
 neighbour_rows n col h = record { has = has; only = only }
   where
     has : (c : Col) (r : Row) → c < n → r < n → h c ≡ true → Entry col c r → neighbour n col h r ≡ true
-    has c r l k e i = some_at (λ d. h d && elem r (col d)) n c l (and_both (h c) (elem r (col c)) e (mem_elem r (col c) i))
+    has c r l k e i = some_at (λ d. h d && elem r (col d)) n c l (and_from (h c) (elem r (col c)) e (mem_elem r (col c) i))
 
     only : (r : Row) → r < n → neighbour n col h r ≡ true → (c : Col) × (c < n) × (h c ≡ true) × Entry col c r
     only r l e =
         let t = some_is (λ d. h d && elem r (col d)) n e in
         let c = t.0 in
-        (c, t.1, and_left (h c) (elem r (col c)) t.2, elem_mem r (col c) (and_right (h c) (elem r (col c)) t.2))
+        let both = and_parts (h c) (elem r (col c)) t.2 in
+        (c, t.1, both.0, elem_mem r (col c) both.1)
 
 -- the columns that a failed search visited are a Hall set
 pub failed_hall_set : {n : ℕ} {col : Pattern} {f : Row → Col} {c₀ : Col} {h : Col → Bool}

@@ -1,19 +1,13 @@
 -- Laws of membership, of lists without repeats, and of the columns that a list leaves out.
-use Prim.Native.Nat.{ℕ, zero, suc, ◌+◌, ◌≤◌, ◌<◌}
-use mathlib.Core.Path.{◌≡◌, refl, sym, ap, ◌∙◌}
-use mathlib.Core.Logic.{◌⊎◌, inl, inr, ◌↔◌, ⊎_elim}
-use mathlib.Core.Bool.{Bool, true, false, cond, not, ◌||◌, ◌&&◌, false≢true}
+use Rattle.std.proofs.Common.{ℕ, zero, suc, ◌+◌, ◌≤◌, ◌<◌, ◌≡◌, refl, sym, ap, ◌∙◌, ◌⊎◌, inl, inr, ◌↔◌, ⊎_elim, Bool, true, false, cond}
+use Rattle.std.proofs.Common.{not, ◌||◌, ◌&&◌, List, [], ◌∷◌, ◌++◌, not-suc-le-zero, le_of_suc-le-suc, arith, eq-eqb, ne_eqb, eqb}
+use Rattle.std.proofs.Common.{length, get_or}
+use mathlib.Core.Bool.{false≢true}
 use mathlib.Core.List.Memᴰ
-use mathlib.Core.List.{List, [], ◌∷◌, ◌++◌}
-use native.Mathlib.Nat.{not-suc-le-zero, le_of_suc-le-suc}
 use native.Mathlib.Decide.{ℕ_discrete}
-use native.Mathlib.Omega.{arith}
-use borrow.Author.Tests.{eq-eqb, ne_eqb}
-use lib.Dec.{eqb}
-use lib.ListN.{length, get_or}
+use Rattle.std.proofs.lemmas.Bool.{false_from_ne_true}
 use Rattle.graph.specs.Lists.{Mem, Once, elem, keep, table, range}
 use Rattle.graph.specs.Counting.{bit, count}
-use Rattle.graph.proofs.Bools.{is_false}
 use Rattle.graph.proofs.Counting.{count_ext, count_minus, pigeon, without}
 
 -- ---- membership and its test
@@ -39,7 +33,7 @@ pub not_elem : (x : ℕ) (l : List ℕ) → elem x l ≡ false → ¬ Mem x l
 not_elem x l e i = false≢true (sym e ∙ mem_elem x l i)
 
 pub elem_not : (x : ℕ) (l : List ℕ) → ¬ Mem x l → elem x l ≡ false
-elem_not x l h = is_false (elem x l) (λ e. h (elem_mem x l e))
+elem_not x l h = false_from_ne_true (elem x l) (λ e. h (elem_mem x l e))
 
 -- a member stands at some place
 pub mem_get_or : (l : List ℕ) (x : ℕ) → Mem x l → (i : ℕ) × (i < length l) × (get_or l i 0 ≡ x)

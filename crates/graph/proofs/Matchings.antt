@@ -1,7 +1,5 @@
 -- Perfect matchings: each column has its row, and the blocks do not depend on which perfect matching is taken.
-use Prim.Native.Nat.{ℕ, zero, suc, ◌<◌}
-use mathlib.Core.Path.{◌≡◌, refl, sym, ap, ◌∙◌, subst}
-use mathlib.Core.Logic.{◌≢◌, ◌↔◌}
+use Rattle.std.proofs.Common.{ℕ, zero, suc, ◌<◌, ◌≡◌, refl, sym, ap, ◌∙◌, subst, ◌≢◌, ◌↔◌}
 use Rattle.graph.specs.Counting.{preimage}
 use Rattle.graph.specs.Reachability.{Reach, here, Both}
 use Rattle.graph.specs.Matchings.{Row, Col, Pattern, Entry, Perfect, Partial, Points}

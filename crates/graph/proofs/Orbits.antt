@@ -1,7 +1,5 @@
 -- A map that is injective on the numbers below n, and stays there, comes back to where it starts.
-use Prim.Native.Nat.{ℕ, zero, suc, ◌<◌}
-use mathlib.Core.Path.{◌≡◌, sym}
-use native.Mathlib.Omega.{arith}
+use Rattle.std.proofs.Common.{ℕ, zero, suc, ◌<◌, ◌≡◌, sym, arith}
 use Rattle.graph.proofs.Counting.{collide}
 
 -- s applied k times

@@ -1,13 +1,9 @@
 -- Alternating paths, and the matching moved along one (Berge 1957): its first column gains a row, and no column loses its own.
-use Prim.Native.Nat.{ℕ, ◌≤◌, ◌<◌}
-use mathlib.Core.Path.{◌≡◌, refl, sym, ap, ◌∙◌, subst}
-use mathlib.Core.Logic.{◌⊎◌, inl, inr, ◌≢◌, ⊎_elim}
+use Rattle.std.proofs.Common.{ℕ, ◌≤◌, ◌<◌, ◌≡◌, refl, sym, ap, ◌∙◌, subst, ◌⊎◌, inl, inr, ◌≢◌, ⊎_elim, List, [], ◌∷◌, arith, length}
+use Rattle.std.proofs.Common.{set, length-set, get_or-set_same, get_or-set_other, set-set}
 use mathlib.Core.List.Memᴰ
-use mathlib.Core.List.{List, [], ◌∷◌}
 use native.Mathlib.Decide.{ℕ_discrete}
-use native.Mathlib.Omega.{arith}
-use lib.ListN.{length, set, length-set}
-use lib.Seq.{get_or-set_same, get_or-set_other, set-set, set_comm}
+use lib.Seq.{set_comm}
 use Rattle.graph.specs.Lists.{Mem, Once}
 use Rattle.graph.specs.Matchings.{Row, Col, Pattern, Entry, Partial, partner}
 use Rattle.graph.specs.Paths.{Alternating, last, more, augment}

@@ -1,9 +1,5 @@
 -- Laws of permutations: one that repeats nothing leaves nothing out, and the inverse is one.
-use Prim.Native.Nat.{ℕ, ◌<◌}
-use mathlib.Core.Path.{◌≡◌, sym, ap, ◌∙◌}
-use mathlib.Core.List.{List}
-use lib.ListN.{length, get_or}
-use lib.Seq.{ext_get_or}
+use Rattle.std.proofs.Common.{ℕ, ◌<◌, ◌≡◌, sym, ap, ◌∙◌, List, length, get_or, ext_get_or}
 use Rattle.graph.specs.Counting.{preimage}
 use Rattle.graph.specs.Permutations.{Permutes, Inverse, inverse}
 use Rattle.graph.proofs.Counting.{onto, preimage_ok}

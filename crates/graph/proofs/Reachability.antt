@@ -1,6 +1,5 @@
 -- Laws of reachability: paths joined, carried to another graph, and turned round.
-use Prim.Native.Nat.{ℕ}
-use mathlib.Core.Path.{◌≡◌, sym, subst}
+use Rattle.std.proofs.Common.{ℕ, ◌≡◌, sym, subst}
 use Rattle.graph.specs.Reachability.{Reach, here, step}
 
 -- an edge is a path

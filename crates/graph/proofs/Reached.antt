@@ -1,9 +1,7 @@
 -- A walk that starts from nothing enters, and finishes, exactly what can be reached from its roots.
-use Prim.Native.Nat.{ℕ, ◌<◌}
+use Rattle.std.proofs.Common.{ℕ, ◌<◌, ◌↔◌, ⊎_elim, List, []}
 use mathlib.Core.Logic.Iff
-use mathlib.Core.Logic.{◌↔◌, ⊎_elim}
 use mathlib.Core.List.Memᴰ
-use mathlib.Core.List.{List, []}
 use Rattle.graph.specs.Lists.{Mem, Once}
 use Rattle.graph.specs.Reachability.{Reach, here, step}
 use Rattle.graph.specs.Walks.{Walked, unwalked, each, visit}

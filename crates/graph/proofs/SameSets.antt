@@ -1,7 +1,6 @@
 -- The blocks of two perfect matchings of one matrix are the same sets of columns, with the same rows.
-use Prim.Native.Nat.{ℕ}
+use Rattle.std.proofs.Common.{ℕ, List}
 use mathlib.Core.Logic.Iff
-use mathlib.Core.List.{List}
 use Rattle.graph.specs.Matchings.{Row, Col, Pattern, Perfect, Points}
 use Rattle.graph.specs.Blocks.{BlockForm, SameBlocks}
 use Rattle.graph.proofs.Matchings.{same_blocks, same_rows}

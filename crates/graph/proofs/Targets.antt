@@ -1,10 +1,7 @@
 -- The graph that a list by row gives is the graph of the matching, and its blocks are a block form of that graph.
-use Prim.Native.Nat.{ℕ, ◌<◌}
-use mathlib.Core.Path.{sym, subst}
+use Rattle.std.proofs.Common.{ℕ, ◌<◌, sym, subst, ◌↔◌, List}
 use mathlib.Core.Logic.Iff
-use mathlib.Core.Logic.{◌↔◌}
 use mathlib.Core.List.Memᴰ
-use mathlib.Core.List.{List}
 use Rattle.graph.specs.Lists.{Mem}
 use Rattle.graph.specs.Reachability.{Both}
 use Rattle.graph.specs.Matchings.{Col, Pattern, Inside, partner, Perfect, Points}

@@ -1,8 +1,6 @@
 -- A depth-first walk as a relation between before and after, its laws, and that the function makes such a walk.
-use Prim.Native.Nat.{ℕ, zero, suc, ◌≤◌, ◌<◌}
-use mathlib.Core.Path.{◌≡◌, refl, sym, ap, ◌∙◌, subst}
-use mathlib.Core.Logic.{◌⊎◌, inl, inr, ⊎_elim}
-use mathlib.Core.Bool.{Bool, true, false, cond}
+use Rattle.std.proofs.Common.{ℕ, zero, suc, ◌≤◌, ◌<◌, ◌≡◌, refl, sym, ap, ◌∙◌, subst, ◌⊎◌, inl, inr, ⊎_elim, Bool, true, false, cond}
+use Rattle.std.proofs.Common.{arith}
 use mathlib.Core.List.Memᴰ
 use mathlib.Core.List.{
   List,
@@ -11,7 +9,6 @@ use mathlib.Core.List.{
   ◌++◌,
   append_assoc,
 }
-use native.Mathlib.Omega.{arith}
 use Rattle.graph.specs.Lists.{Mem, Once, elem}
 use Rattle.graph.specs.Reachability.{Reach, here, step}
 use Rattle.graph.specs.Walks.{Walked, enter, finish, each, visit}
