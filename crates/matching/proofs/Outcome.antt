@@ -22,10 +22,12 @@ use Rattle.sparse.proofs.Matrix.{inside, column_once}
 use Rattle.sparse.proofs.Passing.{repeats_pass}
 use Rattle.sparse.proofs.Room.{short_more, short_last}
 use Rattle.matching.specs.Matching.{Verdict, accepted, refused, matching}
-use Rattle.matching.specs.Outcome.{Lent, buffers, cleared, matching_need, Outcome, ended}
+use Rattle.matching.specs.Outcome.{Lent, lent_by, buffers, cleared, matching_need, Outcome, ended}
 use Rattle.matching.specs.Outcome.{marks_of}
 use Rattle.matching.specs.Outcome.{handed_out, tested, outcome, Given, HallMarks, Means}
 use Rattle.matching.specs.Parts.{Fresh, EndsAt, SameBeyond}
+use Rattle.matching.specs.Work.{holding}
+use Rattle.matching.specs.declared.search.SearchWork.{SearchWork}
 use Rattle.matching.proofs.Matching.{Deficient, Decides, matching_decides}
 
 -- ---- what passed checks say
@@ -106,18 +108,21 @@ pub filled_beyond : (n v : ℕ) (xs : List ℕ) {ys : List ℕ} → ys ≡ repli
 filled_beyond n v xs e = ap (drop n) e ∙ drop_at (replicate n v) (drop n xs) n (length-replicate {A = ℕ} n v)
 
 -- stamps that are zero, cheap places cleared and rows freed are fresh
-pub fresh : (size : ℕ) (l : Lent) {cheap row2col : List ℕ} → Roomy (buffers size l) → ZeroBelow size l.visited
-    → cheap ≡ zeroed size l.cheap → row2col ≡ replicate size none ++ drop size l.row2col → length cheap ≡ length l.cheap
-    → length row2col ≡ length l.row2col → Fresh size l.visited cheap l.scol l.sat row2col
-fresh size l {cheap} {row2col} R z e f k j = record {
-  unvisited = z;
-  unlooked = rw e (zero_below size size l.cheap (omega arith));
-  free = ap (take size) f ∙ take_at (replicate size none) (drop size l.row2col) size (length-replicate {A = ℕ} size none);
-  visited_long = R.0;
-  cheap_long = omega (arith, R.1.0);
-  cols_long = R.1.1.0;
-  places_long = R.1.1.1.0;
-  matching_long = omega (arith, R.1.1.1.1.0);
+pub fresh : (size : ℕ) (w : SearchWork) (m hall : List ℕ) {cheap row2col : List ℕ} → Roomy (buffers size (lent_by w m hall))
+    → ZeroBelow size w.visited.now → cheap ≡ zeroed size w.cheap.now → row2col ≡ replicate size none ++ drop size m
+    → length cheap ≡ length w.cheap.now → length row2col ≡ length m
+    → Fresh size (holding w w.visited.now cheap w.scol.now w.sat.now) row2col
+fresh size w m hall R z e f k j = record {
+  unused = record {
+    unvisited = z;
+    unlooked = rw e (zero_below size size w.cheap.now (omega arith));
+    visited_long = R.0;
+    cheap_long = omega (arith, R.1.0);
+    cols_long = R.1.1.0;
+    places_long = R.1.1.1.0;
+    matching_long = omega (arith, R.1.1.1.1.0);
+  };
+  free = ap (take size) f ∙ take_at (replicate size none) (drop size m) size (length-replicate {A = ℕ} size none);
 }
 
 -- ---- the outputs

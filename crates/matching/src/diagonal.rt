@@ -41,7 +41,7 @@ fn lacks_room(size: u32, work: &SearchWork, row2col: &[u32], hall: &[u32]) -> bo
 // A search from each column in turn: the first column whose search failed, if one did. A stamp of its own tells each search's visits
 // from earlier ones, so nothing is cleared between two.
 fn match_columns(mat: &SquareMat, work: &mut SearchWork, row2col: &mut [u32]) -> Option<Column>
-    requires { Fresh mat.now.mat.size work.old.visited.now work.old.cheap.now work.old.scol.now work.old.sat.now row2col.old }
+    requires { Fresh mat.now.mat.size work.old row2col.old }
     ensures ends_at { EndsAt mat.now.mat.size work.new.visited.now row2col.new result
         (matching mat.now.mat.size (columns mat.now.mat)) }
     ensures same_beyond { SameBeyond mat.now.mat.size row2col.old row2col.new }

@@ -79,10 +79,9 @@ pub fn search(
     work: &mut SearchWork,
     row2col: &mut [u32],
 ) -> bool
-    requires { SearchReady mat.now.mat.size (edited_columns mat.now) row2col.old start.0 mark
-        work.old.visited.now work.old.cheap.now work.old.scol.now work.old.sat.now }
+    requires { SearchReady mat.now.mat.size (edited_columns mat.now) row2col.old start.0 mark work.old }
     ensures search_ends { SearchEnds mat.now.mat.size (edited_columns mat.now) row2col.old start.0 mark
-        work.old.visited.now work.old.cheap.now work.new.visited.now work.new.cheap.now row2col.new result }
+        work.old work.new row2col.new result }
     ensures same_work { SameWork mat.now.mat.size work.old work.new }
 {
     // Copies, so that no step reads them through a reference.

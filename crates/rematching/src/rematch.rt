@@ -2,10 +2,9 @@
 ghost use Rattle.std.specs.Prelude.{◌≡◌, take, IsSome};
 ghost use Rattle.graph.specs.Edits.{edited, former};
 ghost use Rattle.sparse.specs.Columns.{columns};
-ghost use Rattle.matching.specs.Parts.{EndsAt, SameBeyond};
+ghost use Rattle.matching.specs.Parts.{Unused, EndsAt, SameBeyond};
 ghost use Rattle.matching.specs.Work.{SameWork};
 ghost use Rattle.rematching.specs.Checks.{Editable};
-ghost use Rattle.rematching.specs.Parts.{Unused};
 ghost use Rattle.rematching.specs.Rematching.{rematching};
 
 use matching::search::{SearchWork, search};
@@ -24,7 +23,7 @@ pub fn rematch(
     requires editable { Editable mat.now.mat.size mat.now.mat.starts.now mat.now.mat.rows.now edit.now.column.0 edit.now.rows.now
         row2col.old }
     requires row_value { row.0 ≡ former mat.now.mat.size row2col.old edit.now.column.0 }
-    requires unused { Unused mat.now.mat.size work.old.visited.now work.old.cheap.now work.old.scol.now work.old.sat.now row2col.old }
+    requires unused { Unused mat.now.mat.size work.old row2col.old }
     ensures ends_at { EndsAt mat.now.mat.size work.new.visited.now row2col.new result
         (rematching mat.now.mat.size (edited (columns mat.now.mat) edit.now.column.0 edit.now.rows.now)
         (take mat.now.mat.size row2col.old) edit.now.column.0) }

@@ -2,7 +2,7 @@ use Rattle.matching.proofs.Arms.{in_hand, depth_below, column_below, rows_below,
 use Rattle.matching.proofs.Arms.{arm_free, arm_none, arm_again, arm_back, arm_on, fall_free, fall_none, fall_again}
 use Rattle.matching.proofs.Places.{pass_more}
 use Rattle.matching.proofs.Whole.{walk_begin, walk_done}
-use Rattle.std.proofs.Common.{◌+◌, length, refl, sym, ap, ◌∙◌, arith}
+use Rattle.std.proofs.Common.{◌+◌, length, sym, ap, ◌∙◌, arith}
 use Rattle.matching.proofs.search.search.Goals as goal
 
 pub dfs_loop-init : goal.dfs_loop-init
@@ -167,7 +167,5 @@ dfs_loop-preserved c =
 
 pub returns : goal.returns
 returns c =
-    let done = walk_done c.requires c.put.ensures (omega arith) c.dfs_loop.invariant in record {
-      search_ends = done.0;
-      same_work = record { slices = refl; visited = done.1.0; cheap = done.1.1; cols = done.1.2; places = done.1.3 };
-    }
+    let done = walk_done c.requires c.put.ensures (omega arith) c.dfs_loop.invariant in
+    record { search_ends = done.0; same_work = done.1 }
