@@ -4,7 +4,6 @@ ghost use Rattle.graph.specs.Counting.{bit};
 ghost use Rattle.graph.specs.Lists.{table};
 ghost use Rattle.sparse.specs.Buffers.{zeroed, filled};
 ghost use Rattle.sparse.specs.Columns.{columns};
-ghost use Rattle.sparse.specs.Limits.{max_size};
 ghost use Rattle.sparse.specs.Parts.{ZeroBelow};
 ghost use Rattle.sparse.specs.Refusals.{one_short, Roomy};
 ghost use Rattle.matching.specs.Matching.{Verdict, matching};
@@ -81,7 +80,7 @@ fn hand_out(
     hall: &mut [u32],
 ) -> Result<(), Refusal>
     requires below { IfSome failed (λ c. c.0 < size) }
-    requires roomy { (size ≤ max_size) × (size ≤ length work.now.visited.now) × (size ≤ length row2col.old) × (size ≤ length hall.old) }
+    requires roomy { (size ≤ length work.now.visited.now) × (size ≤ length row2col.old) × (size ≤ length hall.old) }
     ensures { (l : Lent) (v : Verdict) → EndsAt size work.now.visited.now row2col.old failed v
         → SameBeyond size l.row2col row2col.old → hall.old ≡ l.hall
         → ended result (cleared size l row2col.new hall.new) ≡ handed_out size l v }

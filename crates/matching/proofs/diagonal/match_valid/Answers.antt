@@ -17,7 +17,6 @@ hand_out-requires c = record {
   below = failed_below _ _ _ c.match_columns-failed.result (matching c.args.mat.now.mat.size (columns c.args.mat.now.mat))
       c.match_columns-failed.ensures.ends_at;
   roomy = (
-    c.args.mat.now.mat.shaped.small,
     omega (arith, c.requires.roomy.0, c.match_columns-failed.ensures.same_work.visited.same_length),
     omega (arith, c.requires.roomy.1.1.1.1.0, c.match_columns-failed.auto, c.fill.auto),
     c.requires.roomy.1.1.1.1.1.0,
