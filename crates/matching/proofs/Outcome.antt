@@ -1,6 +1,6 @@
 -- Each exit of `find_diag_matching`: what it returns and leaves is the outcome, and has the meaning.
 use Rattle.std.proofs.Common.{ℕ, ◌+◌, ◌<◌, ◌≤◌, ◌≡◌, refl, sym, ap, ◌∙◌, Bool, true, false, List, ◌++◌, ◌⊎◌, inl, inr, arith, eqb}
-use Rattle.std.proofs.Common.{ltb, ◌||◌, length, get_or, take, drop, replicate, drop_at, take_at, Option, Some, None, IfSome, Ok, Err}
+use Rattle.std.proofs.Common.{length, get_or, take, drop, replicate, drop_at, take_at, Option, Some, None, IfSome, Ok, Err}
 use lib.ListN.{length-replicate}
 use Rattle.graph.specs.Counting.{bit}
 use Rattle.graph.specs.Lists.{elem, table}
@@ -12,7 +12,7 @@ use Rattle.sparse.specs.Buffers.{zeroed, filled}
 use Rattle.sparse.specs.Limits.{none, max_size}
 use Rattle.sparse.specs.Matrix.{column}
 use Rattle.sparse.specs.Parts.{ZeroBelow}
-use Rattle.sparse.specs.Refusals.{Checked, passed, number, as_column, first_refusal, early, one_short, Roomy, repeated_row}
+use Rattle.sparse.specs.Refusals.{Checked, passed, number, as_column, first_refusal, early, Roomy, repeated_row}
 use Rattle.sparse.specs.declared.Column.{Column}
 use Rattle.sparse.specs.declared.refusal.Refusal.{Refusal}
 use Rattle.sparse.specs.declared.refusal.Refusal.TheVariants.{Unmatchable}
@@ -20,9 +20,8 @@ use Rattle.sparse.proofs.Buffers.{filled_at, front_filled, zero_below}
 use Rattle.sparse.proofs.Early.{Early, early_passed, early_passes, early_number, repeats_number}
 use Rattle.sparse.proofs.Matrix.{inside, column_once}
 use Rattle.sparse.proofs.Passing.{repeats_pass}
-use Rattle.sparse.proofs.Room.{short_more, short_last}
 use Rattle.matching.specs.Matching.{Verdict, accepted, refused, matching}
-use Rattle.matching.specs.Outcome.{Lent, lent_by, buffers, cleared, matching_need, Outcome, ended}
+use Rattle.matching.specs.Outcome.{Lent, lent_by, buffers, cleared, Outcome, ended}
 use Rattle.matching.specs.Outcome.{marks_of}
 use Rattle.matching.specs.Outcome.{handed_out, tested, outcome, Given, HallMarks, Means}
 use Rattle.matching.specs.Parts.{Fresh, EndsAt, SameBeyond}
@@ -255,15 +254,3 @@ outcome_means size starts rows l after answer f =
     go (Ok u) e (Ok t) g =
         verdict_means size starts rows l after answer e g
         (f ∙ sym (verdict_outcome size starts rows l e g))
-
--- ---- the test of the buffers
-
--- the tests of the six buffers, joined two by two, are the test of the buffers
-pub room_test : (size need : ℕ) (l : Lent) (v c s a m h outputs stack₁ stack work all : Bool) → need ≡ matching_need size
-    → m ≡ ltb (length l.row2col) size → h ≡ ltb (length l.hall) size → outputs ≡ m || h
-    → s ≡ ltb (length l.scol) size → a ≡ ltb (length l.sat) size → stack₁ ≡ a || outputs → stack ≡ s || stack₁
-    → v ≡ ltb (length l.visited) need → c ≡ ltb (length l.cheap) need → work ≡ c || stack → all ≡ v || work
-    → all ≡ one_short (buffers size l)
-room_test size need l v c s a m h outputs stack₁ stack work all n em eh eo es ea e1 e2 ev ec ew et =
-    et ∙ rw (ev, ew, ec, e2, es, e1, ea, eo, em, eh, n)
-    (sym (short_more _ _ ∙ rw (short_more _ _, short_more _ _, short_more _ _, short_more _ _, short_last _)))

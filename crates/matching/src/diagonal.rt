@@ -12,7 +12,7 @@ ghost use Rattle.matching.specs.Parts.{Fresh, EndsAt, SameBeyond};
 ghost use Rattle.matching.specs.Work.{holding, SameSlices, SameWork};
 
 use super::search::{SearchWork, search};
-use sparse::checks::{check_early, check_repeats};
+use sparse::checks::{any_short, check_early, check_repeats};
 use sparse::slices::{clear, fill, get, put};
 use sparse::{Column, EditedMat, NONE, Refusal, SquareMat};
 
@@ -29,12 +29,14 @@ fn lacks_room(size: u32, work: &SearchWork, row2col: &[u32], hall: &[u32]) -> bo
 {
     let need = matching_need(size) as usize;
     let size = size as usize;
-    (work.visited.len() < need)
-        | (work.cheap.len() < need)
-        | (work.scol.len() < size)
-        | (work.sat.len() < size)
-        | (row2col.len() < size)
-        | (hall.len() < size)
+    any_short(&[
+        (work.visited.len(), need),
+        (work.cheap.len(), need),
+        (work.scol.len(), size),
+        (work.sat.len(), size),
+        (row2col.len(), size),
+        (hall.len(), size),
+    ])
 }
 
 // A search from each column in turn: the first column whose search failed, if one did. A stamp of its own tells each search's visits

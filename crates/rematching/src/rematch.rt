@@ -9,7 +9,7 @@ ghost use Rattle.rematching.specs.Rematching.{rematching};
 
 use matching::search::{SearchWork, search};
 use sparse::slices::put;
-use sparse::{Column, Edit, EditedMat, NONE, OriginalRow, SquareMat};
+use sparse::{Column, Edit, EditedMat, OriginalRow, SquareMat};
 
 // The one search of an edit: the row that the edited column had becomes free, and a search starts from that column. Returns that column
 // if the search failed, and then the matching is as it was.
@@ -36,7 +36,7 @@ pub fn rematch(
         mat: mat.mat,
         edit: Some(*edit),
     };
-    put(row2col, row, NONE);
+    put(row2col, row, None::<Column>);
     if search(&edited, c, c.0 + 1, work, row2col) {
         return None;
     }
