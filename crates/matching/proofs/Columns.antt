@@ -50,7 +50,7 @@ pub record Going (n : ℕ) (col : Pattern) (c : Col) (work₀ : SearchWork) (row
     : Type 0 where
   pub inside : Inside n col
   pub short : (d : Col) → length (col d) ≤ max_entries
-  pub fresh : Fresh n work₀.visited.now work₀.cheap.now work₀.scol.now work₀.sat.now row2col₀
+  pub fresh : Fresh n work₀ row2col₀
   pub leads : match_from n col (n - c) c (take n row2col) ≡ matching n col
   pub stamps : (d : Col) → d < n → get_or work.visited.now d 0 ≤ c
   pub sound : Cheap n col row2col work.cheap.now
@@ -59,7 +59,7 @@ pub record Going (n : ℕ) (col : Pattern) (c : Col) (work₀ : SearchWork) (row
 
 -- before the first
 pub going_start : {n : ℕ} {col : Pattern} {row2col : List ℕ} (work : SearchWork) → Inside n col
-    → ((d : Col) → length (col d) ≤ max_entries) → Fresh n work.visited.now work.cheap.now work.scol.now work.sat.now row2col
+    → ((d : Col) → length (col d) ≤ max_entries) → Fresh n work row2col
     → Going n col 0 work row2col work row2col
 unfolding matching
 going_start {n} work I short F = record {
@@ -67,8 +67,8 @@ going_start {n} work I short F = record {
   short = short;
   fresh = F;
   leads = let z : n - 0 ≡ n = omega arith in rw (z, F.free) refl;
-  stamps = λ d l. omega (arith, F.unvisited d l);
-  sound = λ d l k j. absurd (omega (arith, F.unlooked d l));
+  stamps = λ d l. omega (arith, F.unused.unvisited d l);
+  sound = λ d l k j. absurd (omega (arith, F.unused.unlooked d l));
   same_work = record {
     slices = refl;
     visited = record { same_length = refl; beyond = refl };
@@ -81,29 +81,29 @@ going_start {n} work I short F = record {
 
 -- before the first in a matrix
 pub searches_start : {size : ℕ} {starts rows row2col : List ℕ} (work : SearchWork) → Shaped size starts rows → RowsBelow rows size
-    → Fresh size work.visited.now work.cheap.now work.scol.now work.sat.now row2col
+    → Fresh size work row2col
     → Going size (column starts rows) 0 work row2col work row2col
 searches_start work S low F = going_start work (inside S low) (column_short S) F
 
 -- then the next search can be made, with a stamp of its own
 pub going_ready : {n : ℕ} {col : Pattern} {c : Col} {w₀ w : SearchWork} {m₀ m : List ℕ} → Going n col c w₀ m₀ w m → c < n
-    → SearchReady n col m c (c + 1) w.visited.now w.cheap.now w.scol.now w.sat.now
+    → SearchReady n col m c (c + 1) w
 going_ready G l = record {
   inside = G.inside;
   short = G.short;
   below = l;
   unstamped = λ d k e. omega (arith, G.stamps d k);
   sound = G.sound;
-  matching_long = omega (arith, G.fresh.matching_long, G.matching.same_length);
-  stamps_long = omega (arith, G.fresh.visited_long, G.same_work.visited.same_length);
-  cheap_long = omega (arith, G.fresh.cheap_long, G.same_work.cheap.same_length);
-  cols_long = omega (arith, G.fresh.cols_long, G.same_work.cols.same_length);
-  places_long = omega (arith, G.fresh.places_long, G.same_work.places.same_length);
+  matching_long = omega (arith, G.fresh.unused.matching_long, G.matching.same_length);
+  stamps_long = omega (arith, G.fresh.unused.visited_long, G.same_work.visited.same_length);
+  cheap_long = omega (arith, G.fresh.unused.cheap_long, G.same_work.cheap.same_length);
+  cols_long = omega (arith, G.fresh.unused.cols_long, G.same_work.cols.same_length);
+  places_long = omega (arith, G.fresh.unused.places_long, G.same_work.places.same_length);
 }
 
 -- what the search of column c leaves of the matching beyond n
-pub matching_beyond : {n : ℕ} {col : Pattern} {c : Col} {m visited cheap visited' cheap' m' : List ℕ} {answer : Bool} → Inside n col
-    → c < n → SearchEnds n col m c (c + 1) visited cheap visited' cheap' m' answer → drop n m' ≡ drop n m
+pub matching_beyond : {n : ℕ} {col : Pattern} {c : Col} {w w' : SearchWork} {m m' : List Col} {answer : Bool} → Inside n col
+    → c < n → SearchEnds n col m c (c + 1) w w' m' answer → drop n m' ≡ drop n m
 matching_beyond {n} {col} {c} {m} I l E = ap (drop n) E.matched ∙ drop-moved n col m c I l
 
 -- an ending that answers true has a path
@@ -122,7 +122,7 @@ same_ending {n} {col} m c I = sym (search_agree n col m (take n m) I (agree_take
 
 -- a search keeps the slices, whatever it answers
 pub going_kept : {n : ℕ} {col : Pattern} {c : Col} {w₀ w w' : SearchWork} {m₀ m m' : List ℕ} {answer : Bool} → Going n col c w₀ m₀ w m
-    → c < n → SearchEnds n col m c (c + 1) w.visited.now w.cheap.now w'.visited.now w'.cheap.now m' answer → SameWork n w w'
+    → c < n → SearchEnds n col m c (c + 1) w w' m' answer → SameWork n w w'
     → length m' ≡ length m → SameWork n w₀ w' × Stays n m₀ m'
 going_kept G l E W k = (
   work_then G.same_work W,
@@ -145,7 +145,7 @@ leads_on {n} {col} {c} m {m'} I l L T E =
     ∙ ap (λ (x : ℕ). match_from n col x c (take n m)) (sym k) ∙ L
 
 pub going_more : {n : ℕ} {col : Pattern} {c : Col} {w₀ w w' : SearchWork} {m₀ m m' : List ℕ} → Going n col c w₀ m₀ w m → c < n
-    → SearchEnds n col m c (c + 1) w.visited.now w.cheap.now w'.visited.now w'.cheap.now m' true → SameWork n w w'
+    → SearchEnds n col m c (c + 1) w w' m' true → SameWork n w w'
     → length m' ≡ length m → Going n col (c + 1) w₀ m₀ w' m'
 going_more {n} {col} {c} {w = w} {m = m} G l E W k = let kept = going_kept G l E W k in record {
   inside = G.inside;
@@ -160,9 +160,9 @@ going_more {n} {col} {c} {w = w} {m = m} G l E W k = let kept = going_kept G l E
 }
 
 -- where it failed, that is the rule's verdict, and the stamp tells the columns it visited
-pub going_failed : {n : ℕ} {col : Pattern} {c : Col} {w₀ w : SearchWork} {m₀ m v' h' m' : List ℕ} → Going n col c w₀ m₀ w m → c < n
-    → SearchEnds n col m c (c + 1) w.visited.now w.cheap.now v' h' m' false → EndsAt n v' m' (Some (as_column c)) (matching n col)
-going_failed {n} {col} {c} {w = w} {m = m} {v' = v'} {m' = m'} G l E = rw verdict (refl, l, stamp)
+pub going_failed : {n : ℕ} {col : Pattern} {c : Col} {w₀ w w' : SearchWork} {m₀ m m' : List ℕ} → Going n col c w₀ m₀ w m → c < n
+    → SearchEnds n col m c (c + 1) w w' m' false → EndsAt n w'.visited.now m' (Some (as_column c)) (matching n col)
+going_failed {n} {col} {c} {w = w} {w' = w'} {m = m} G l E = rw verdict (refl, l, stamp)
   where
     f : (search n col (take n m) n [] c).ending ≡ failed
     f = failed_path _ (E.answered ∙ ap is_found (ap (λ s. s.ending) (sym (same_ending m c G.inside))))
@@ -178,7 +178,7 @@ going_failed {n} {col} {c} {w = w} {m = m} {v' = v'} {m' = m'} G l E = rw verdic
     is d k = stamped_is n (c + 1) (search n col m n [] c).visited w.visited.now d (going_ready G l).stamps_long
         (λ x j e. omega (arith, G.stamps x j)) (visited_below n col m c l) k
 
-    stamp : (d : Col) → d < n → eqb (get_or v' d 0) (c + 1) ≡ elem d (search n col m n [] c).visited
+    stamp : (d : Col) → d < n → eqb (get_or w'.visited.now d 0) (c + 1) ≡ elem d (search n col m n [] c).visited
     stamp d k = rw E.visits (go (elem d (search n col m n [] c).visited) refl)
       where
         go : (b : Bool) → elem d (search n col m n [] c).visited ≡ b

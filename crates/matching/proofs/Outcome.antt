@@ -1,6 +1,6 @@
 -- Each exit of `find_diag_matching`: what it returns and leaves is the outcome, and has the meaning.
 use Rattle.std.proofs.Common.{ℕ, ◌+◌, ◌<◌, ◌≤◌, ◌≡◌, refl, sym, ap, ◌∙◌, Bool, true, false, List, ◌++◌, ◌⊎◌, inl, inr, arith, eqb}
-use Rattle.std.proofs.Common.{ltb, ◌||◌, length, get_or, take, drop, replicate, drop_at, take_at, Option, Some, None, IfSome, Ok, Err}
+use Rattle.std.proofs.Common.{length, get_or, take, drop, replicate, drop_at, take_at, Option, Some, None, IfSome, Ok, Err}
 use lib.ListN.{length-replicate}
 use Rattle.graph.specs.Counting.{bit}
 use Rattle.graph.specs.Lists.{elem, table}
@@ -12,7 +12,7 @@ use Rattle.sparse.specs.Buffers.{zeroed, filled}
 use Rattle.sparse.specs.Limits.{none, max_size}
 use Rattle.sparse.specs.Matrix.{column}
 use Rattle.sparse.specs.Parts.{ZeroBelow}
-use Rattle.sparse.specs.Refusals.{Checked, passed, number, as_column, first_refusal, early, one_short, Roomy, repeated_row}
+use Rattle.sparse.specs.Refusals.{Checked, passed, number, as_column, first_refusal, early, Roomy, repeated_row}
 use Rattle.sparse.specs.declared.Column.{Column}
 use Rattle.sparse.specs.declared.refusal.Refusal.{Refusal}
 use Rattle.sparse.specs.declared.refusal.Refusal.TheVariants.{Unmatchable}
@@ -20,12 +20,13 @@ use Rattle.sparse.proofs.Buffers.{filled_at, front_filled, zero_below}
 use Rattle.sparse.proofs.Early.{Early, early_passed, early_passes, early_number, repeats_number}
 use Rattle.sparse.proofs.Matrix.{inside, column_once}
 use Rattle.sparse.proofs.Passing.{repeats_pass}
-use Rattle.sparse.proofs.Room.{short_more, short_last}
 use Rattle.matching.specs.Matching.{Verdict, accepted, refused, matching}
-use Rattle.matching.specs.Outcome.{Lent, buffers, cleared, matching_need, Outcome, ended}
+use Rattle.matching.specs.Outcome.{Lent, lent_by, buffers, cleared, Outcome, ended}
 use Rattle.matching.specs.Outcome.{marks_of}
 use Rattle.matching.specs.Outcome.{handed_out, tested, outcome, Given, HallMarks, Means}
 use Rattle.matching.specs.Parts.{Fresh, EndsAt, SameBeyond}
+use Rattle.matching.specs.Work.{holding}
+use Rattle.matching.specs.declared.search.SearchWork.{SearchWork}
 use Rattle.matching.proofs.Matching.{Deficient, Decides, matching_decides}
 
 -- ---- what passed checks say
@@ -106,18 +107,21 @@ pub filled_beyond : (n v : ℕ) (xs : List ℕ) {ys : List ℕ} → ys ≡ repli
 filled_beyond n v xs e = ap (drop n) e ∙ drop_at (replicate n v) (drop n xs) n (length-replicate {A = ℕ} n v)
 
 -- stamps that are zero, cheap places cleared and rows freed are fresh
-pub fresh : (size : ℕ) (l : Lent) {cheap row2col : List ℕ} → Roomy (buffers size l) → ZeroBelow size l.visited
-    → cheap ≡ zeroed size l.cheap → row2col ≡ replicate size none ++ drop size l.row2col → length cheap ≡ length l.cheap
-    → length row2col ≡ length l.row2col → Fresh size l.visited cheap l.scol l.sat row2col
-fresh size l {cheap} {row2col} R z e f k j = record {
-  unvisited = z;
-  unlooked = rw e (zero_below size size l.cheap (omega arith));
-  free = ap (take size) f ∙ take_at (replicate size none) (drop size l.row2col) size (length-replicate {A = ℕ} size none);
-  visited_long = R.0;
-  cheap_long = omega (arith, R.1.0);
-  cols_long = R.1.1.0;
-  places_long = R.1.1.1.0;
-  matching_long = omega (arith, R.1.1.1.1.0);
+pub fresh : (size : ℕ) (w : SearchWork) (m hall : List ℕ) {cheap row2col : List ℕ} → Roomy (buffers size (lent_by w m hall))
+    → ZeroBelow size w.visited.now → cheap ≡ zeroed size w.cheap.now → row2col ≡ replicate size none ++ drop size m
+    → length cheap ≡ length w.cheap.now → length row2col ≡ length m
+    → Fresh size (holding w w.visited.now cheap w.scol.now w.sat.now) row2col
+fresh size w m hall R z e f k j = record {
+  unused = record {
+    unvisited = z;
+    unlooked = rw e (zero_below size size w.cheap.now (omega arith));
+    visited_long = R.0;
+    cheap_long = omega (arith, R.1.0);
+    cols_long = R.1.1.0;
+    places_long = R.1.1.1.0;
+    matching_long = omega (arith, R.1.1.1.1.0);
+  };
+  free = ap (take size) f ∙ take_at (replicate size none) (drop size m) size (length-replicate {A = ℕ} size none);
 }
 
 -- ---- the outputs
@@ -250,15 +254,3 @@ outcome_means size starts rows l after answer f =
     go (Ok u) e (Ok t) g =
         verdict_means size starts rows l after answer e g
         (f ∙ sym (verdict_outcome size starts rows l e g))
-
--- ---- the test of the buffers
-
--- the tests of the six buffers, joined two by two, are the test of the buffers
-pub room_test : (size need : ℕ) (l : Lent) (v c s a m h outputs stack₁ stack work all : Bool) → need ≡ matching_need size
-    → m ≡ ltb (length l.row2col) size → h ≡ ltb (length l.hall) size → outputs ≡ m || h
-    → s ≡ ltb (length l.scol) size → a ≡ ltb (length l.sat) size → stack₁ ≡ a || outputs → stack ≡ s || stack₁
-    → v ≡ ltb (length l.visited) need → c ≡ ltb (length l.cheap) need → work ≡ c || stack → all ≡ v || work
-    → all ≡ one_short (buffers size l)
-room_test size need l v c s a m h outputs stack₁ stack work all n em eh eo es ea e1 e2 ev ec ew et =
-    et ∙ rw (ev, ew, ec, e2, es, e1, ea, eo, em, eh, n)
-    (sym (short_more _ _ ∙ rw (short_more _ _, short_more _ _, short_more _ _, short_more _ _, short_last _)))

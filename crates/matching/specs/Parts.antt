@@ -8,6 +8,7 @@ use Rattle.sparse.specs.Limits.{none}
 use Rattle.sparse.specs.Parts.{ZeroBelow}
 use Rattle.sparse.specs.declared.Column.{Column}
 use Rattle.matching.specs.Matching.{Verdict, accepted, refused}
+use Rattle.matching.specs.declared.search.SearchWork.{SearchWork}
 
 -- the column that has the row at place k
 abbrev pub col_at : List Col → List Row → ℕ → Col
@@ -27,16 +28,20 @@ pub data Advance (mark : ℕ) (stamps m : List Col) (rs : List Row) (top from : 
   down : (k : ℕ) → OpenPlace mark stamps m rs from k → k < length rs
       → Advance mark stamps m rs top from cs ps (set cs (top + 1) (col_at m rs k)) (set ps top k) (top + 2)
 
--- no column is visited, no row was looked at, every row is free, and there is room: what the searches of all columns need
-pub record Fresh (n : ℕ) (visited cheap scol sat row2col : List ℕ) : Type 0 where
-  pub unvisited : ZeroBelow n visited
-  pub unlooked : ZeroBelow n cheap
-  pub free : take n row2col ≡ replicate n none
-  pub visited_long : n ≤ length visited
-  pub cheap_long : n ≤ length cheap
-  pub cols_long : n ≤ length scol
-  pub places_long : n ≤ length sat
+-- no column is visited, no row was looked at, and there is room: what the first search in these slices needs
+pub record Unused (n : ℕ) (w : SearchWork) (row2col : List Col) : Type 0 where
+  pub unvisited : ZeroBelow n w.visited.now
+  pub unlooked : ZeroBelow n w.cheap.now
+  pub visited_long : n ≤ length w.visited.now
+  pub cheap_long : n ≤ length w.cheap.now
+  pub cols_long : n ≤ length w.scol.now
+  pub places_long : n ≤ length w.sat.now
   pub matching_long : n ≤ length row2col
+
+-- and every row is free: what the searches of all columns need
+pub record Fresh (n : ℕ) (w : SearchWork) (row2col : List Col) : Type 0 where
+  pub unused : Unused n w row2col
+  pub free : take n row2col ≡ replicate n none
 
 -- how the searches end with a verdict: none failed, with the matching; or one did, with its column, whose stamp the visited columns have
 abbrev pub EndsAt : ℕ → List ℕ → List Col → Option Column → Verdict → Type 0

@@ -4,7 +4,6 @@ ghost use Rattle.graph.specs.Counting.{bit};
 ghost use Rattle.graph.specs.Lists.{table};
 ghost use Rattle.sparse.specs.Buffers.{zeroed, filled};
 ghost use Rattle.sparse.specs.Columns.{columns};
-ghost use Rattle.sparse.specs.Limits.{max_size};
 ghost use Rattle.sparse.specs.Parts.{ZeroBelow};
 ghost use Rattle.sparse.specs.Refusals.{one_short, Roomy};
 ghost use Rattle.matching.specs.Matching.{Verdict, matching};
@@ -13,7 +12,7 @@ ghost use Rattle.matching.specs.Parts.{Fresh, EndsAt, SameBeyond};
 ghost use Rattle.matching.specs.Work.{holding, SameSlices, SameWork};
 
 use super::search::{SearchWork, search};
-use sparse::checks::{check_early, check_repeats};
+use sparse::checks::{any_short, check_early, check_repeats};
 use sparse::slices::{clear, fill, get, put};
 use sparse::{Column, EditedMat, NONE, Refusal, SquareMat};
 
@@ -30,18 +29,20 @@ fn lacks_room(size: u32, work: &SearchWork, row2col: &[u32], hall: &[u32]) -> bo
 {
     let need = matching_need(size) as usize;
     let size = size as usize;
-    (work.visited.len() < need)
-        | (work.cheap.len() < need)
-        | (work.scol.len() < size)
-        | (work.sat.len() < size)
-        | (row2col.len() < size)
-        | (hall.len() < size)
+    any_short(&[
+        (work.visited.len(), need),
+        (work.cheap.len(), need),
+        (work.scol.len(), size),
+        (work.sat.len(), size),
+        (row2col.len(), size),
+        (hall.len(), size),
+    ])
 }
 
 // A search from each column in turn: the first column whose search failed, if one did. A stamp of its own tells each search's visits
 // from earlier ones, so nothing is cleared between two.
 fn match_columns(mat: &SquareMat, work: &mut SearchWork, row2col: &mut [u32]) -> Option<Column>
-    requires { Fresh mat.now.mat.size work.old.visited.now work.old.cheap.now work.old.scol.now work.old.sat.now row2col.old }
+    requires { Fresh mat.now.mat.size work.old row2col.old }
     ensures ends_at { EndsAt mat.now.mat.size work.new.visited.now row2col.new result
         (matching mat.now.mat.size (columns mat.now.mat)) }
     ensures same_beyond { SameBeyond mat.now.mat.size row2col.old row2col.new }
@@ -81,7 +82,7 @@ fn hand_out(
     hall: &mut [u32],
 ) -> Result<(), Refusal>
     requires below { IfSome failed (λ c. c.0 < size) }
-    requires roomy { (size ≤ max_size) × (size ≤ length work.now.visited.now) × (size ≤ length row2col.old) × (size ≤ length hall.old) }
+    requires roomy { (size ≤ length work.now.visited.now) × (size ≤ length row2col.old) × (size ≤ length hall.old) }
     ensures { (l : Lent) (v : Verdict) → EndsAt size work.now.visited.now row2col.old failed v
         → SameBeyond size l.row2col row2col.old → hall.old ≡ l.hall
         → ended result (cleared size l row2col.new hall.new) ≡ handed_out size l v }

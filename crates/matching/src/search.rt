@@ -1,5 +1,5 @@
 // One search of the matching: from a column without a row, along rows and the columns that have them, to a free row.
-ghost use Rattle.std.specs.Prelude.{◌≡◌, ◌≢◌, ℕ, ◌+◌, ◌≤◌, ◌<◌, length, get_or};
+ghost use Rattle.std.specs.Prelude.{◌≡◌, ◌≢◌, ℕ, ◌+◌, ◌≤◌, ◌<◌, max, length, get_or, unwrap_or, IfSome};
 ghost use Rattle.sparse.specs.Columns.{edited_columns};
 ghost use Rattle.sparse.specs.Limits.{max_size, max_entries};
 ghost use Rattle.sparse.specs.Matrix.{RowsBelow};
@@ -28,21 +28,20 @@ fn col_at(col: &[u32], row2col: &[u32], k: u32) -> Column
     get(row2col, r)
 }
 
-// The first place of a column's rows, from a place on, whose row's column is not visited; behind the last where there is none.
-pub fn scan_next(col: &[u32], row2col: &[u32], visited: &[u32], mark: u32, from: u32) -> u32
+// The first place of a column's rows, from a place on, whose row's column is not visited, if there is one.
+pub fn scan_next(col: &[u32], row2col: &[u32], visited: &[u32], mark: u32, from: u32) -> Option<u32>
     requires col_len_bound { (length col.now ≤ max_entries) × RowsBelow col.now (length row2col.now) }
     requires by_index { (k : ℕ) → k < length col.now → col_at row2col.now col.now k < length visited.now }
-    ensures { OpenPlace mark visited.now row2col.now col.now from result }
+    ensures open_place { OpenPlace mark visited.now row2col.now col.now from (unwrap_or result (max from (length col.now))) }
+    ensures within { IfSome result (λ k. k < length col.now) }
 {
-    let len = col.len() as u32;
-    for k in from..len {
+    for k in from..col.len() as u32 {
         let stamp: u32 = get(visited, col_at(col, row2col, k));
         if stamp != mark {
-            return k;
+            return Some(k);
         }
     }
-    // Nothing demands of a caller that it starts within the column.
-    from.max(len)
+    None
 }
 
 // Goes on from the step on top, whose rows from a place on are to be scanned: the first column that is not visited is put on the stack,
@@ -64,13 +63,12 @@ pub fn advance(
     ensures { Advance mark visited.now row2col.now col.now top from
         scol.old sat.old scol.new sat.new result }
 {
-    let next = scan_next(col, row2col, visited, mark, from);
-    if next < col.len() as u32 {
-        put(sat, top, next);
-        put(scol, top + 1, col_at(col, row2col, next));
-        return top + 2;
-    }
-    top
+    let Some(next) = scan_next(col, row2col, visited, mark, from) else {
+        return top;
+    };
+    put(sat, top, next);
+    put(scol, top + 1, col_at(col, row2col, next));
+    top + 2
 }
 
 // One search from a column that has no row: whether it found a path to a free row, along which the matching is then moved.
@@ -81,10 +79,9 @@ pub fn search(
     work: &mut SearchWork,
     row2col: &mut [u32],
 ) -> bool
-    requires { SearchReady mat.now.mat.size (edited_columns mat.now) row2col.old start.0 mark
-        work.old.visited.now work.old.cheap.now work.old.scol.now work.old.sat.now }
+    requires { SearchReady mat.now.mat.size (edited_columns mat.now) row2col.old start.0 mark work.old }
     ensures search_ends { SearchEnds mat.now.mat.size (edited_columns mat.now) row2col.old start.0 mark
-        work.old.visited.now work.old.cheap.now work.new.visited.now work.new.cheap.now row2col.new result }
+        work.old work.new row2col.new result }
     ensures same_work { SameWork mat.now.mat.size work.old work.new }
 {
     // Copies, so that no step reads them through a reference.

@@ -14,7 +14,8 @@ use Rattle.sparse.specs.Matrix.{column_or, Shaped, RowsBelow}
 use Rattle.sparse.specs.Refusals.{as_column}
 use Rattle.sparse.specs.declared.Column.{Column}
 use Rattle.matching.specs.Matching.{search, refused}
-use Rattle.matching.specs.Parts.{EndsAt, SameBeyond}
+use Rattle.matching.specs.Parts.{Unused, EndsAt, SameBeyond}
+use Rattle.matching.specs.declared.search.SearchWork.{SearchWork}
 use Rattle.matching.specs.Search.{Unstamped, stamped, is_found, moved, SearchReady, SearchEnds}
 use Rattle.matching.proofs.Columns.{matching_beyond}
 use Rattle.matching.proofs.Front.{agree_take, search_agree, take-moved}
@@ -22,7 +23,6 @@ use Rattle.matching.proofs.Ready.{short_or}
 use Rattle.matching.proofs.Searching.{visited_below}
 use Rattle.matching.proofs.Stamps.{stamped_is}
 use Rattle.rematching.specs.Checks.{Editable}
-use Rattle.rematching.specs.Parts.{Unused}
 use Rattle.rematching.specs.Rematching.{rematching}
 use Rattle.rematching.proofs.Rematching.{rematching_found, rematching_failed, perfect_take, edited_inside}
 
@@ -43,18 +43,17 @@ freed-take {n} m e x M l =
     ap (λ (r : Row). set (take n m) r x) (former-take m e M l) ∙ sym (take-set-lt n m (former n m e) x (row_of M e l).0)
 
 -- the former row stands in the slice
-pub edit_row : {size : ℕ} {starts rows new visited cheap scol sat row2col : List ℕ} {e : Col} (row : Row)
-    → Editable size starts rows e new row2col → Unused size visited cheap scol sat row2col → row ≡ former size row2col e
+pub edit_row : {size : ℕ} {starts rows new row2col : List ℕ} {e : Col} {w : SearchWork} (row : Row)
+    → Editable size starts rows e new row2col → Unused size w row2col → row ≡ former size row2col e
     → row < length row2col
 edit_row {e = e} row E U f = omega (arith, f, (row_of E.perfect e E.below).0, U.matching_long)
 
 -- ---- before the search
 
 -- with the former row free, and nothing visited, a search may be made from the edited column
-pub edit_ready : {size : ℕ} {starts rows new visited cheap scol sat row2col : List ℕ} {e : Col} (m : List Col)
+pub edit_ready : {size : ℕ} {starts rows new row2col : List ℕ} {e : Col} {w : SearchWork} (m : List Col)
     → Shaped size starts rows → RowsBelow rows size → Editable size starts rows e new row2col
-    → Unused size visited cheap scol sat row2col → length m ≡ length row2col
-    → SearchReady size (column_or starts rows e new) m e (e + 1) visited cheap scol sat
+    → Unused size w row2col → length m ≡ length row2col → SearchReady size (column_or starts rows e new) m e (e + 1) w
 edit_ready {new = new} {e = e} m S low E U k = record {
   inside = edited_inside e new S low E.new_below E.below;
   short = short_or e new S (omega (arith, E.few));
@@ -78,12 +77,13 @@ same_search {n} {col} m e I M l =
     ∙ sym (search_agree n col (freed n m e none) (take n (freed n m e none)) I (agree_take n (freed n m e none)) n [] e)
 
 -- where the search answers true it found a path, and the slice holds the rule's matching
-edit_found : {n : ℕ} {col col₀ : Pattern} {e : Col} {v₀ h₀ v h m' : List ℕ} (m : List Col) → Inside n col
-    → Perfect n col₀ (partner m) → e < n → SearchEnds n col (freed n m e none) e (e + 1) v₀ h₀ v h m' true
-    → EndsAt n v m' None (rematching n col (take n m) e)
-edit_found {n} {col} {e = e} {v = v} {m' = m'} m I M l E = go (search n col (freed n m e none) n [] e).ending refl
+edit_found : {n : ℕ} {col col₀ : Pattern} {e : Col} {w₀ w : SearchWork} {m' : List Col} (m : List Col) → Inside n col
+    → Perfect n col₀ (partner m) → e < n → SearchEnds n col (freed n m e none) e (e + 1) w₀ w m' true
+    → EndsAt n w.visited.now m' None (rematching n col (take n m) e)
+edit_found {n} {col} {e = e} {w = w} {m' = m'} m I M l E = go (search n col (freed n m e none) n [] e).ending refl
   where
-    go : (o : Ending) → (search n col (freed n m e none) n [] e).ending ≡ o → EndsAt n v m' None (rematching n col (take n m) e)
+    go : (o : Ending) → (search n col (freed n m e none) n [] e).ending ≡ o
+        → EndsAt n w.visited.now m' None (rematching n col (take n m) e)
     go failed f = let z : ◌≡◌ {A = ℕ} 0 1 = cc (E.answered, ap is_found f) in absurd (omega arith)
     go (found p r) f =
         let s : (search n col (freed n (take n m) e none) n [] e).ending ≡ found p r = ap (λ t. t.ending) (same_search m e I M l) ∙ f in
@@ -98,33 +98,33 @@ no_path failed h = refl
 no_path (found p r) h = let z : ◌≡◌ {A = ℕ} 0 1 = cc in absurd (omega arith)
 
 -- then the rule refuses at column e, and the stamps tell the columns visited, whatever the slice m'' holds by then
-edit_failed : {n : ℕ} {col col₀ : Pattern} {e : Col} {v₀ h₀ v h m' : List ℕ} (m m'' : List Col) → Inside n col
-    → Perfect n col₀ (partner m) → e < n → n ≤ length v₀ → Unstamped n (e + 1) v₀
-    → SearchEnds n col (freed n m e none) e (e + 1) v₀ h₀ v h m' false
-    → EndsAt n v m'' (Some (as_column e)) (rematching n col (take n m) e)
-edit_failed {n} {col} {e = e} {v₀ = v₀} {v = v} m m'' I M l long new E = rw verdict (refl, l, stamp)
+edit_failed : {n : ℕ} {col col₀ : Pattern} {e : Col} {w₀ w : SearchWork} {m' : List Col} (m m'' : List Col) → Inside n col
+    → Perfect n col₀ (partner m) → e < n → n ≤ length w₀.visited.now → Unstamped n (e + 1) w₀.visited.now
+    → SearchEnds n col (freed n m e none) e (e + 1) w₀ w m' false
+    → EndsAt n w.visited.now m'' (Some (as_column e)) (rematching n col (take n m) e)
+edit_failed {n} {col} {e = e} {w₀ = w₀} {w = w} m m'' I M l long new E = rw verdict (refl, l, stamp)
   where
     verdict : rematching n col (take n m) e ≡ refused e (search n col (freed n m e none) n [] e).visited
     verdict =
         let s = same_search m e I M l in
         rematching_failed n col (take n m) e (ap (λ t. t.ending) s ∙ no_path _ E.answered) ∙ ap (λ t. refused e t.visited) s
 
-    is : (d : Col) → d < n → (get_or (stamped (e + 1) (search n col (freed n m e none) n [] e).visited v₀) d 0 ≡ e + 1)
+    is : (d : Col) → d < n → (get_or (stamped (e + 1) (search n col (freed n m e none) n [] e).visited w₀.visited.now) d 0 ≡ e + 1)
         ↔ Mem d (search n col (freed n m e none) n [] e).visited
-    is d k = stamped_is n (e + 1) (search n col (freed n m e none) n [] e).visited v₀ d long new
+    is d k = stamped_is n (e + 1) (search n col (freed n m e none) n [] e).visited w₀.visited.now d long new
         (visited_below n col (freed n m e none) e l) k
 
-    stamp : (d : Col) → d < n → eqb (get_or v d 0) (e + 1) ≡ elem d (search n col (freed n m e none) n [] e).visited
+    stamp : (d : Col) → d < n → eqb (get_or w.visited.now d 0) (e + 1) ≡ elem d (search n col (freed n m e none) n [] e).visited
     stamp d k = rw E.visits (go (elem d (search n col (freed n m e none) n [] e).visited) refl)
       where
         go : (b : Bool) → elem d (search n col (freed n m e none) n [] e).visited ≡ b
-            → eqb (get_or (stamped (e + 1) (search n col (freed n m e none) n [] e).visited v₀) d 0) (e + 1) ≡ b
+            → eqb (get_or (stamped (e + 1) (search n col (freed n m e none) n [] e).visited w₀.visited.now) d 0) (e + 1) ≡ b
         go true h = eq-eqb _ _ ((is d k).1 (elem_mem d _ h))
         go false h = ne_eqb _ _ (λ z. not_elem d _ h ((is d k).0 z))
 
 -- then the slice is as it was once the former row has its column again
-edit_restored : {n : ℕ} {col col₀ : Pattern} {e : Col} {v₀ h₀ v h m' : List ℕ} (m : List Col) → Perfect n col₀ (partner m) → e < n
-    → SearchEnds n col (freed n m e none) e (e + 1) v₀ h₀ v h m' false → set m' (former n m e) e ≡ m
+edit_restored : {n : ℕ} {col col₀ : Pattern} {e : Col} {w₀ w : SearchWork} {m' : List Col} (m : List Col)
+    → Perfect n col₀ (partner m) → e < n → SearchEnds n col (freed n m e none) e (e + 1) w₀ w m' false → set m' (former n m e) e ≡ m
 edit_restored {n} {col} {e = e} {m' = m'} m M l E =
     let r = former n m e in
     let f = no_path (search n col (freed n m e none) n [] e).ending E.answered in
@@ -140,16 +140,16 @@ pub record Leaves (n : ℕ) (col : Pattern) (e : Col) (answer : Option Column) (
   pub matching : SameBeyond n m₀ m
 
 -- where the row freed is the former row, the search was made in the matching with that row free
-as_freed : {n k : ℕ} {col : Pattern} {e : Col} {v₀ h₀ v h m₁ m' : List ℕ} {answer : Bool} (m : List Col) (row : Row) (b : Bool)
-    → row ≡ former n m e → m₁ ≡ set m row none → answer ≡ b → SearchEnds n col m₁ e k v₀ h₀ v h m' answer
-    → SearchEnds n col (freed n m e none) e k v₀ h₀ v h m' b
+as_freed : {n k : ℕ} {col : Pattern} {e : Col} {w₀ w : SearchWork} {m₁ m' : List Col} {answer : Bool} (m : List Col) (row : Row)
+    (b : Bool) → row ≡ former n m e → m₁ ≡ set m row none → answer ≡ b → SearchEnds n col m₁ e k w₀ w m' answer
+    → SearchEnds n col (freed n m e none) e k w₀ w m' b
 as_freed m row b f g a E = rw (sym a, sym f, sym g) E
 
 -- it returns no column after a path was found, with the matching moved along it
-pub leaves_found : {size : ℕ} {starts rows new v₀ h₀ v h m m₁ m' : List ℕ} {e : Col} {answer : Bool} (row : Row)
+pub leaves_found : {size : ℕ} {starts rows new m m₁ m' : List ℕ} {e : Col} {w₀ w : SearchWork} {answer : Bool} (row : Row)
     → Shaped size starts rows → RowsBelow rows size → Editable size starts rows e new m → row ≡ former size m e → m₁ ≡ set m row none
-    → SearchEnds size (column_or starts rows e new) m₁ e (e + 1) v₀ h₀ v h m' answer → answer ≡ true
-    → Leaves size (column_or starts rows e new) e None m v m'
+    → SearchEnds size (column_or starts rows e new) m₁ e (e + 1) w₀ w m' answer → answer ≡ true
+    → Leaves size (column_or starts rows e new) e None m w.visited.now m'
 leaves_found {size} {new = new} {m = m} {e = e} row S low D f g E a =
     let F = as_freed m row true f g a E in
     let I = edited_inside e new S low D.new_below D.below in
@@ -160,11 +160,11 @@ leaves_found {size} {new = new} {m = m} {e = e} row S low D f g E a =
     }
 
 -- it returns the column after none was found, with the former row given back
-pub leaves_failed : {size : ℕ} {starts rows new v₀ h₀ s₀ a₀ v h m m₁ m' m'' : List ℕ} {e : Col} {answer : Bool} (row : Row)
-    → Shaped size starts rows → RowsBelow rows size → Editable size starts rows e new m → Unused size v₀ h₀ s₀ a₀ m
+pub leaves_failed : {size : ℕ} {starts rows new m m₁ m' m'' : List ℕ} {e : Col} {w₀ w : SearchWork} {answer : Bool} (row : Row)
+    → Shaped size starts rows → RowsBelow rows size → Editable size starts rows e new m → Unused size w₀ m
     → row ≡ former size m e → m₁ ≡ set m row none
-    → SearchEnds size (column_or starts rows e new) m₁ e (e + 1) v₀ h₀ v h m' answer → answer ≡ false → m'' ≡ set m' row e
-    → Leaves size (column_or starts rows e new) e (Some (as_column e)) m v m''
+    → SearchEnds size (column_or starts rows e new) m₁ e (e + 1) w₀ w m' answer → answer ≡ false → m'' ≡ set m' row e
+    → Leaves size (column_or starts rows e new) e (Some (as_column e)) m w.visited.now m''
 leaves_failed {size} {new = new} {m = m} {m' = m'} {m'' = m''} {e = e} row S low D U f g E a b =
     let F = as_freed m row false f g a E in
     let I = edited_inside e new S low D.new_below D.below in

@@ -1,5 +1,4 @@
 pub mod Before
-pub mod Refusals
 pub mod Earlier
 pub mod Replacements
 pub mod Mismatches

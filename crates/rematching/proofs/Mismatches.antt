@@ -1,7 +1,8 @@
 -- Refusal 15: that it lets through the perfect matchings and no others; and the loop that looks for the first mismatched row.
 use Rattle.std.proofs.Common.{ℕ, ◌+◌, ◌≤◌, ◌<◌, ◌≡◌, refl, sym, ap, ◌∙◌, ◌⊎◌, inl, inr, ◌≢◌, List, Bool, true, false, ◌||◌, not, arith}
 use Rattle.std.proofs.Common.{below_more, leb-false, eq-eqb, ne_eqb, leb, eqb, length, get_or, set, take, ext_get_or, get_or-take}
-use Rattle.std.proofs.Common.{get_or-set_same, get_or-set_other, length-take-le}
+use Rattle.std.proofs.Common.{get_or-set_same, get_or-set_other, length-take-le, ◌++◌, drop, replicate}
+use lib.ListN.{length-replicate, get_or-replicate, get_or-append}
 use native.Mathlib.Decide.{ℕ_discrete}
 use borrow.Author.Tests.{lt-leb, not-false}
 use Rattle.graph.specs.Lists.{Mem, elem}
@@ -15,7 +16,7 @@ use Rattle.sparse.specs.Limits.{max_size, none}
 use Rattle.sparse.specs.Refusals.{passed, as_row}
 use Rattle.sparse.specs.declared.refusal.Refusal.TheVariants.{MismatchedRow}
 use Rattle.sparse.proofs.Refusals.{at_passed, refused_none}
-use Rattle.matching.proofs.Stamps.{Kept, kept_set}
+use Rattle.matching.proofs.Stamps.{Kept, kept_start, kept_set}
 use Rattle.rematching.specs.Checks.{mismatched_at, mismatched_row}
 use Rattle.rematching.proofs.Earlier.{earlier_is, is_earlier}
 
@@ -97,6 +98,17 @@ pub record Recording (n : ℕ) (col : Pattern) (m q₀ q : List ℕ) (r : Row) :
   pub kept : Kept n q₀ q
   pub placed : (j : Row) → j < r → get_or q (partner m j) 0 ≡ j
   pub others : (c : Col) → c < n → ((j : Row) → j < r → partner m j ≢ c) → get_or q c 0 ≡ none
+
+-- before the first row every column has none
+pub record_start : {n : ℕ} (col : Pattern) (m q₀ : List ℕ) {q : List ℕ} → n ≤ length q → q ≡ replicate n none ++ drop n q₀
+    → Recording n col m q q 0
+record_start {n} col m q₀ {q} long e = record {
+  suits = λ j l. absurd (omega arith);
+  kept = kept_start n q long;
+  placed = λ j l. absurd (omega arith);
+  others = λ c l h. rw e (get_or-append (replicate n none) (drop n q₀) 0 c (omega (arith, length-replicate {A = ℕ} n none))
+      ∙ get_or-replicate n c none 0 l);
+}
 
 -- the code's test of row r and its column c is the definition's
 pub mismatch_test : {n : ℕ} {col : Pattern} {m q₀ q : List ℕ} {r : Row} {c : Col} {t : Bool} → Recording n col m q₀ q r

@@ -1,15 +1,14 @@
 // The checks of an edit, in the table's order. Each equals its row of the table, for any slices that the checks before it let through.
-ghost use Rattle.std.specs.Prelude.{◌≡◌, ◌≤◌, ◌<◌, ◌||◌, not, leb, eqb, length, get_or, take, option_map, None};
+ghost use Rattle.std.specs.Prelude.{◌≡◌, ◌≤◌, ◌<◌, ◌||◌, not, leb, eqb, length, get_or};
 ghost use Rattle.graph.specs.Lists.{elem};
 ghost use Rattle.graph.specs.Permutations.{inverse};
 ghost use Rattle.sparse.specs.Buffers.{filled};
 ghost use Rattle.sparse.specs.Columns.{columns};
-ghost use Rattle.sparse.specs.Limits.{max_size, none};
-ghost use Rattle.sparse.specs.Parts.{ZeroBelow, found};
-ghost use Rattle.sparse.specs.Refusals.{passed, as_row, first_refusal};
+ghost use Rattle.sparse.specs.Limits.{none};
+ghost use Rattle.sparse.specs.Parts.{ZeroBelow};
+ghost use Rattle.sparse.specs.Refusals.{passed, first_refusal};
 ghost use Rattle.matching.specs.Parts.{SameBeyond};
-ghost use Rattle.rematching.specs.Checks.{column_outside, unfit_at, unfit_row, mismatched_at, mismatched_row, grown_too_large, late};
-ghost use Rattle.rematching.specs.Parts.{NoneBelow};
+ghost use Rattle.rematching.specs.Checks.{column_outside, unfit_row, mismatched_row, grown_too_large, late};
 
 use sparse::checks::check_repeats;
 use sparse::slices::{fill, get, put};
@@ -30,33 +29,21 @@ fn is_unfit(size: u32, row: OriginalRow, marks: &[u32]) -> bool
     size <= row.0 || get::<OriginalRow, u32>(marks, row) != 0
 }
 
-// The first place of a replacement whose row is not below n or stands before, if there is one. The rows before it are marked. Among any
-// n + 1 rows there is such a place, so the search is short for a replacement of any length.
-fn first_unfit(size: u32, replacement: &[u32], marks: &mut [u32]) -> Option<u32>
-    requires { (size ≤ max_size) × (size ≤ length marks.old) × ZeroBelow size marks.old }
-    ensures value { result ≡ found (unfit_at size replacement.now) (length replacement.now) }
+// Refusal 14, with marks for the rows that are zero; those of the rows that passed are left. Among any n + 1 rows one is not below n or
+// stands before, so the search is short for a replacement of any length.
+pub fn check_replacement(size: u32, replacement: &[u32], marks: &mut [u32]) -> Result<(), Refusal>
+    requires { (size ≤ length marks.old) × ZeroBelow size marks.old }
+    ensures value { result ≡ unfit_row size replacement.now }
     ensures same_beyond { SameBeyond size marks.old marks.new }
 {
     for (k, row) in replacement.iter().enumerate() {
         let row = OriginalRow(*row);
         if is_unfit(size, row, marks) {
-            return Some(k as u32);
+            return Err(Refusal::UnfitRow(k as u32));
         }
         put(marks, row, 1);
     }
-    None
-}
-
-// Refusal 14, with marks for the rows that are zero; those of the rows that passed are left.
-pub fn check_replacement(size: u32, replacement: &[u32], marks: &mut [u32]) -> Result<(), Refusal>
-    requires { (size ≤ max_size) × (size ≤ length marks.old) × ZeroBelow size marks.old }
-    ensures value { result ≡ unfit_row size replacement.now }
-    ensures same_beyond { SameBeyond size marks.old marks.new }
-{
-    match first_unfit(size, replacement, marks) {
-        Some(k) => Err(Refusal::UnfitRow(k)),
-        None => Ok(()),
-    }
+    Ok(())
 }
 
 // Whether a column has an entry in a row.
@@ -76,26 +63,6 @@ fn is_mismatched(mat: &SparseMat, col2row: &[u32], c: Column, row: OriginalRow) 
     mat.size <= c.0 || get::<Column, u32>(col2row, c) != NONE || !has_row(mat, c, row)
 }
 
-// The first row whose column is not below n, is that of an earlier row, or lacks the row, if there is one; else col2row has the row of
-// each column.
-fn first_mismatched(mat: &SparseMat, row2col: &[u32], col2row: &mut [u32]) -> Option<OriginalRow>
-    requires matching_in_bounds { mat.now.size ≤ length row2col.now }
-    requires size_in_bounds { (mat.now.size ≤ length col2row.old) × NoneBelow mat.now.size col2row.old }
-    ensures value { result ≡ option_map as_row (found (mismatched_at mat.now.size (columns mat.now) row2col.now) mat.now.size) }
-    ensures same_beyond { SameBeyond mat.now.size col2row.old col2row.new }
-    ensures col2row_after { result ≡ None → take mat.now.size col2row.new ≡ inverse mat.now.size row2col.now }
-{
-    for r in 0..mat.size {
-        let row = OriginalRow(r);
-        let c: Column = get(row2col, row);
-        if is_mismatched(mat, col2row, c, row) {
-            return Some(row);
-        }
-        put(col2row, c, row);
-    }
-    None
-}
-
 // Refusal 15. Where it passes, col2row has the row of each column.
 pub fn check_matching(mat: &SparseMat, row2col: &[u32], col2row: &mut [u32]) -> Result<(), Refusal>
     requires { (mat.now.size ≤ length row2col.now) × (mat.now.size ≤ length col2row.old) }
@@ -104,10 +71,15 @@ pub fn check_matching(mat: &SparseMat, row2col: &[u32], col2row: &mut [u32]) -> 
     ensures col2row_after { result ≡ passed → col2row.new ≡ filled (inverse mat.now.size row2col.now) col2row.old }
 {
     fill(col2row, mat.size, NONE);
-    match first_mismatched(mat, row2col, col2row) {
-        Some(row) => Err(Refusal::MismatchedRow(row)),
-        None => Ok(()),
+    for r in 0..mat.size {
+        let row = OriginalRow(r);
+        let c: Column = get(row2col, row);
+        if is_mismatched(mat, col2row, c, row) {
+            return Err(Refusal::MismatchedRow(row));
+        }
+        put(col2row, c, row);
     }
+    Ok(())
 }
 
 // Refusal 1 once more, of the edited matrix.

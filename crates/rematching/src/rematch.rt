@@ -2,15 +2,14 @@
 ghost use Rattle.std.specs.Prelude.{◌≡◌, take, IsSome};
 ghost use Rattle.graph.specs.Edits.{edited, former};
 ghost use Rattle.sparse.specs.Columns.{columns};
-ghost use Rattle.matching.specs.Parts.{EndsAt, SameBeyond};
+ghost use Rattle.matching.specs.Parts.{Unused, EndsAt, SameBeyond};
 ghost use Rattle.matching.specs.Work.{SameWork};
 ghost use Rattle.rematching.specs.Checks.{Editable};
-ghost use Rattle.rematching.specs.Parts.{Unused};
 ghost use Rattle.rematching.specs.Rematching.{rematching};
 
 use matching::search::{SearchWork, search};
 use sparse::slices::put;
-use sparse::{Column, Edit, EditedMat, NONE, OriginalRow, SquareMat};
+use sparse::{Column, Edit, EditedMat, OriginalRow, SquareMat};
 
 // The one search of an edit: the row that the edited column had becomes free, and a search starts from that column. Returns that column
 // if the search failed, and then the matching is as it was.
@@ -24,7 +23,7 @@ pub fn rematch(
     requires editable { Editable mat.now.mat.size mat.now.mat.starts.now mat.now.mat.rows.now edit.now.column.0 edit.now.rows.now
         row2col.old }
     requires row_value { row.0 ≡ former mat.now.mat.size row2col.old edit.now.column.0 }
-    requires unused { Unused mat.now.mat.size work.old.visited.now work.old.cheap.now work.old.scol.now work.old.sat.now row2col.old }
+    requires unused { Unused mat.now.mat.size work.old row2col.old }
     ensures ends_at { EndsAt mat.now.mat.size work.new.visited.now row2col.new result
         (rematching mat.now.mat.size (edited (columns mat.now.mat) edit.now.column.0 edit.now.rows.now)
         (take mat.now.mat.size row2col.old) edit.now.column.0) }
@@ -37,7 +36,7 @@ pub fn rematch(
         mat: mat.mat,
         edit: Some(*edit),
     };
-    put(row2col, row, NONE);
+    put(row2col, row, None::<Column>);
     if search(&edited, c, c.0 + 1, work, row2col) {
         return None;
     }

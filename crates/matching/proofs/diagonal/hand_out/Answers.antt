@@ -8,5 +8,5 @@ returns-in-Some c =
 
 pub returns : goal.returns
 returns c =
-    λ l v E same h. hand_accepted c.args.size c.args.work.now.visited.now _ _ _ l v c.requires.roomy.2 (rw c.in_default.is at E)
+    λ l v E same h. hand_accepted c.args.size c.args.work.now.visited.now _ _ _ l v c.requires.roomy.1 (rw c.in_default.is at E)
     same h c.clear-2.ensures

@@ -3,14 +3,13 @@ use Rattle.matching.specs.Matching.{matching}
 use Rattle.sparse.specs.Columns.{columns}
 use Rattle.sparse.specs.Limits.{none}
 use Rattle.std.proofs.Common.{drop, arith, ◌∙◌, ap, sym}
-use Rattle.matching.specs.Outcome.{lent_by}
 use Rattle.matching.proofs.Outcome.{fresh, filled_beyond, failed_below}
 use Rattle.matching.proofs.Work.{stays_then}
 use Rattle.matching.proofs.diagonal.match_valid.Goals as goal
 
 pub match_columns-failed-requires : goal.match_columns-failed-requires
 match_columns-failed-requires c =
-    fresh c.args.mat.now.mat.size (lent_by c.args.work.now c.args.row2col.now c.args.hall.now)
+    fresh c.args.mat.now.mat.size c.args.work.now c.args.row2col.now c.args.hall.now
     c.requires.roomy c.requires.unmarked c.clear.ensures c.fill.ensures (omega (arith, c.clear.auto)) (omega (arith, c.fill.auto))
 
 pub hand_out-requires : goal.hand_out-requires
@@ -18,7 +17,6 @@ hand_out-requires c = record {
   below = failed_below _ _ _ c.match_columns-failed.result (matching c.args.mat.now.mat.size (columns c.args.mat.now.mat))
       c.match_columns-failed.ensures.ends_at;
   roomy = (
-    c.args.mat.now.mat.shaped.small,
     omega (arith, c.requires.roomy.0, c.match_columns-failed.ensures.same_work.visited.same_length),
     omega (arith, c.requires.roomy.1.1.1.1.0, c.match_columns-failed.auto, c.fill.auto),
     c.requires.roomy.1.1.1.1.1.0,

@@ -1,21 +1,18 @@
 -- `advance` meets its contract.
 use Rattle.matching.specs.Parts.{back, down}
-use Rattle.std.proofs.Common.{arith}
+use Rattle.std.proofs.Common.{arith, length, max}
 use Rattle.matching.proofs.search.advance.Goals as goal
 
-pub put-requires-then-next-col : goal.put-requires-then-next-col
-put-requires-then-next-col c =
-    omega (
-      arith,
-      c.requires.top_lt_max_size.2 c.scan_next-next.result (omega arith)
-          (c.scan_next-next.ensures.here (omega arith)),
-    )
+pub put-requires-2 : goal.put-requires-2
+put-requires-2 c =
+    let S = c.in-Some.ensures in
+    omega (arith, c.requires.top_lt_max_size.2 c.in-Some.next S.within (S.open_place.here S.within))
 
-pub returns-then-next-col : goal.returns-then-next-col
-returns-then-next-col c =
-    rw (c.put-then-next-col.ensures, c.put.ensures, c.col_at.ensures) (down
-    c.scan_next-next.result c.scan_next-next.ensures (omega arith))
+pub returns-in_default : goal.returns-in_default
+returns-in_default c =
+    back (max c.args.from (length c.args.col.now)) c.in_default.ensures.open_place (omega arith)
 
 pub returns : goal.returns
 returns c =
-    back c.scan_next-next.result c.scan_next-next.ensures (omega arith)
+    let S = c.in-Some.ensures in
+    rw (c.put.ensures, c.put-2.ensures, c.col_at.ensures) (down c.in-Some.next S.open_place S.within)
