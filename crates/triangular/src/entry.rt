@@ -9,7 +9,7 @@ ghost use Rattle.triangular.specs.Outcome.{Work, lent, buffers, held_work, holdi
 ghost use Rattle.triangular.specs.Outcome.{handed_out, formed, outcome, ended, Means};
 ghost use Rattle.triangular.specs.Parts.{SameWork};
 
-use super::form::{FormOutputs, FormWork, clear_blocks, clear_work, entries_need, lacks_room};
+use super::form::{FormOutputs, FormWork, clear_blocks, clear_work, lacks_room};
 use super::matched::block_matched;
 use matching::SearchWork;
 use matching::diagonal::match_valid;
@@ -84,8 +84,7 @@ pub fn find_block_diag_form(
     ensures same_slices { (work.new ≡ holding_work work.old (held_work work.new))
         × (outputs.new ≡ holding_outputs outputs.old (held_outputs outputs.new)) }
 {
-    let few = work.backrows.len() < entries_need(rows.len());
-    let short = lacks_room(size, few, work, outputs);
+    let short = lacks_room(size, rows.len(), work, outputs);
     let mat = check_early(size, starts, rows, short)?;
     let answer = block_tested(&mat, work, outputs);
     clear_work(size, rows.len() as u32, work);

@@ -52,10 +52,9 @@ pub fn entries_need(entries: usize) -> usize
     entries
 }
 
-// Whether a slice of the workspace or of the stack is shorter than its need; the caller has tested the reversed graph's rows.
-fn lacks_work(size: u32, few: bool, work: &FormWork) -> bool
-    ensures { (entries : ℕ) → few ≡ ltb (length work.now.backrows.now) (entries_need entries)
-        → result ≡ one_short (work_buffers size entries (held_work work.now)) }
+// Whether a slice of the workspace or of the stack is shorter than its need.
+fn lacks_work(size: u32, entries: usize, work: &FormWork) -> bool
+    ensures { result ≡ one_short (work_buffers size entries (held_work work.now)) }
 {
     let need = form_need(size) as usize;
     (work.visited.len() < need)
@@ -63,7 +62,7 @@ fn lacks_work(size: u32, few: bool, work: &FormWork) -> bool
         | (work.finished.len() < need)
         | (work.col2row.len() < need)
         | (work.backstarts.len() < starts_need(size))
-        | few
+        | (work.backrows.len() < entries_need(entries))
         | (work.scol.len() < need)
         | (work.sat.len() < need)
 }
@@ -79,12 +78,11 @@ fn lacks_outputs(size: u32, outputs: &FormOutputs) -> bool
         | (outputs.blockstarts.len() < starts_need(size))
 }
 
-// Whether a buffer is shorter than its need; the caller has tested the reversed graph's rows.
-pub fn lacks_room(size: u32, few: bool, work: &FormWork, outputs: &FormOutputs) -> bool
-    ensures { (entries : ℕ) → few ≡ ltb (length work.now.backrows.now) (entries_need entries)
-        → result ≡ one_short (buffers size entries (held work.now outputs.now)) }
+// Whether a buffer is shorter than its need, with room asked for so many entries.
+pub fn lacks_room(size: u32, entries: usize, work: &FormWork, outputs: &FormOutputs) -> bool
+    ensures { result ≡ one_short (buffers size entries (held work.now outputs.now)) }
 {
-    lacks_work(size, few, work) | lacks_outputs(size, outputs)
+    lacks_work(size, entries, work) | lacks_outputs(size, outputs)
 }
 
 // The workspace and the stack become zero over their needs.

@@ -1,5 +1,5 @@
 -- `find_block_diag_form` meets its contract: a refusal of the early checks, or what is formed with the workspace cleared, is the outcome.
-use Rattle.std.proofs.Common.{rules, Err, sym, ap, refl, ◌∙◌, length}
+use Rattle.std.proofs.Common.{rules, Err, sym, ap, ◌∙◌, length}
 use Rattle.std.proofs.lemmas.Result.{err_from_is_err_and}
 use Rattle.sparse.specs.Refusals.{checked}
 use Rattle.sparse.proofs.Early.{early_passed}
@@ -13,7 +13,7 @@ use Rattle.triangular.proofs.entry.find_block_diag_form.Goals as goal
 pub returns-in_err-mat : goal.returns-in_err-mat
 returns-in_err-mat c =
     let l = held c.args.work.now c.args.outputs.now in
-    let found = c.check_early.ensures.value _ (c.lacks_room-short.ensures (length c.args.rows.now) (rw c.entries_need.ensures refl)) in
+    let found = c.check_early.ensures.value _ c.lacks_room-short.ensures in
     let p = err_from_is_err_and c.from_residual.result c.from_residual.ensures.1 in
     let e = ap (λ (a : BlockAnswer). ended a l) (p.1 ∙ ap (λ r. Err r) p.2)
     ∙ early_outcome _ _ _ l _ (sym found ∙ ap checked c.in_err-mat.was) in
@@ -21,13 +21,13 @@ returns-in_err-mat c =
 
 pub block_tested-answer-requires : goal.block_tested-answer-requires
 block_tested-answer-requires c =
-    let found = c.check_early.ensures.value _ (c.lacks_room-short.ensures (length c.args.rows.now) (rw c.entries_need.ensures refl)) in
+    let found = c.check_early.ensures.value _ c.lacks_room-short.ensures in
     let mat = c.in_ok-mat.ensures in
     rw (mat.size, mat.rows) (early_passed _ _ _ _ (sym found ∙ ap checked c.in_ok-mat.was)).room
 
 pub clear_work-requires-clause-roomy : goal.clear_work-requires-clause-roomy
 clear_work-requires-clause-roomy c =
-    let found = c.check_early.ensures.value _ (c.lacks_room-short.ensures (length c.args.rows.now) (rw c.entries_need.ensures refl)) in
+    let found = c.check_early.ensures.value _ c.lacks_room-short.ensures in
     let room = (early_passed _ _ _ _ (sym found ∙ ap checked c.in_ok-mat.was)).room in
     let size = c.args.size in
     let entries = length c.args.rows.now in
@@ -38,7 +38,7 @@ clear_work-requires-clause-roomy c =
 pub returns : goal.returns
 returns c =
     let l = held c.args.work.now c.args.outputs.now in
-    let found = c.check_early.ensures.value _ (c.lacks_room-short.ensures (length c.args.rows.now) (rw c.entries_need.ensures refl)) in
+    let found = c.check_early.ensures.value _ c.lacks_room-short.ensures in
     let mat = c.in_ok-mat.ensures in
     let tested = c.block_tested-answer in
     let same = rw (mat.size, mat.rows) at tested.ensures.same_work in

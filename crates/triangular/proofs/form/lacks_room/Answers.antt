@@ -6,6 +6,6 @@ use Rattle.triangular.proofs.form.lacks_room.Goals as goal
 
 pub returns : goal.returns
 returns c =
-    λ entries e. rw (c.lacks_work.ensures entries e, c.lacks_outputs.ensures)
-    (sym (short_append (work_buffers c.args.size entries (held_work c.args.work.now))
+    rw (c.lacks_work.ensures, c.lacks_outputs.ensures)
+    (sym (short_append (work_buffers c.args.size c.args.entries (held_work c.args.work.now))
     (output_buffers c.args.size (held_outputs c.args.outputs.now))))

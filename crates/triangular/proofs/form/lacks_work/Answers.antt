@@ -5,5 +5,5 @@ use Rattle.triangular.proofs.form.lacks_work.Goals as goal
 
 pub returns : goal.returns
 returns c =
-    λ entries few. rw (few, c.form_need-need.ensures, c.starts_need.ensures)
-    (work_test c.args.size entries (held_work c.args.work.now))
+    rw (c.form_need-need.ensures, c.starts_need.ensures, c.entries_need.ensures)
+    (work_test c.args.size c.args.entries (held_work c.args.work.now))
