@@ -87,6 +87,6 @@ pub fn find_block_diag_form(
     let short = lacks_room(size, rows.len(), work, outputs);
     let mat = check_early(size, starts, rows, short)?;
     let answer = block_tested(&mat, work, outputs);
-    clear_work(size, rows.len() as u32, work);
+    clear_work(size, rows.len(), work);
     answer
 }

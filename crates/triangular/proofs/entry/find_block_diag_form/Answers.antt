@@ -25,8 +25,8 @@ block_tested-answer-requires c =
     let mat = c.in_ok-mat.ensures in
     rw (mat.size, mat.rows) (early_passed _ _ _ _ (sym found ∙ ap checked c.in_ok-mat.was)).room
 
-pub clear_work-requires-clause-roomy : goal.clear_work-requires-clause-roomy
-clear_work-requires-clause-roomy c =
+pub clear_work-requires : goal.clear_work-requires
+clear_work-requires c =
     let found = c.check_early.ensures.value _ c.lacks_room-short.ensures in
     let room = (early_passed _ _ _ _ (sym found ∙ ap checked c.in_ok-mat.was)).room in
     let size = c.args.size in
