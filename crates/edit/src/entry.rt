@@ -13,6 +13,13 @@ use sparse::{Column, Edit, Refusal, SquareMat};
 use triangular::form::{clear_work, lacks_room};
 use triangular::{FormOutputs, FormWork};
 
+// How many entries there must be room for: those of the old matrix, and n more, which a replacement may bring.
+fn edit_entries(size: u32, rows: &[u32]) -> usize
+    ensures { result ≡ edit_entries size rows.now }
+{
+    rows.len() + size as usize
+}
+
 // The edit of a matrix that refusals 1, 2, 5 and 3 let through. What the workspace holds afterwards is the caller's to clear.
 fn edit_tested(
     mat: &SquareMat,
@@ -54,14 +61,14 @@ pub fn edit_column(
     ensures same_slices { (work.new ≡ holding_work work.old (held_work work.new))
         × (outputs.new ≡ holding_outputs outputs.old (held_outputs outputs.new)) }
 {
-    let few = work.backrows.len() < rows.len() + size as usize;
-    let short = lacks_room(size, few, work, outputs);
+    let entries = edit_entries(size, rows);
+    let short = lacks_room(size, entries, work, outputs);
     let mat = check_early(size, starts, rows, short)?;
     let edit = Edit {
         column: edited,
         rows: replacement,
     };
     let answer = edit_tested(&mat, &edit, work, outputs);
-    clear_work(size, rows.len() as u32 + size, work);
+    clear_work(size, entries, work);
     answer
 }

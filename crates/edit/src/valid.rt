@@ -4,7 +4,6 @@ ghost use Rattle.graph.specs.Counting.{bit};
 ghost use Rattle.graph.specs.Edits.{edited, former};
 ghost use Rattle.graph.specs.Lists.{Once, table};
 ghost use Rattle.sparse.specs.Columns.{columns};
-ghost use Rattle.sparse.specs.Limits.{max_size};
 ghost use Rattle.sparse.specs.Refusals.{Roomy};
 ghost use Rattle.rematching.specs.Checks.{Editable};
 ghost use Rattle.rematching.specs.Rematching.{rematching};
@@ -29,7 +28,7 @@ fn refuse_edit(
     work: &FormWork,
     outputs: &mut FormOutputs,
 ) -> Result<u32, Refusal>
-    requires size_le_max_size { (size ≤ max_size) × (c.0 < size) }
+    requires column_in_bounds { c.0 < size }
     requires size_in_bounds { (size ≤ length work.now.visited.now) × (size ≤ length outputs.old.hall.now)
         × (form_need size ≤ length outputs.old.blockcols.now) × (starts_need size ≤ length outputs.old.blockstarts.now) }
     ensures value { result ≡ unmatchable c.0 }
