@@ -1,8 +1,8 @@
 // The entry of the edit.
 ghost use Rattle.std.specs.Prelude.{◌≡◌};
 ghost use Rattle.sparse.specs.Refusals.{Roomy};
-ghost use Rattle.triangular.specs.Outcome.{Work, lent, buffers, held_work, holding_work, held_outputs, holding_outputs, held, ended};
-ghost use Rattle.triangular.specs.Parts.{SameWork};
+ghost use Rattle.triangular.specs.Outcome.{Work, lent, buffers, held_work, held_outputs, held, ended};
+ghost use Rattle.triangular.specs.Parts.{SameWork, SameSlices, SameOutputs};
 ghost use Rattle.edit.specs.Outcome.{edit_entries, replaced, outcome, Means};
 
 use super::valid::edit_valid;
@@ -33,8 +33,7 @@ fn edit_tested(
         (held_outputs outputs.old) }
     ensures same_work { SameWork mat.now.mat.size (edit_entries mat.now.mat.size mat.now.mat.rows.now) (held_work work.old)
         (held_work work.new) }
-    ensures same_slices { (work.new ≡ holding_work work.old (held_work work.new))
-        × (outputs.new ≡ holding_outputs outputs.old (held_outputs outputs.new)) }
+    ensures same_slices { SameSlices work.old work.new × SameOutputs outputs.old outputs.new }
 {
     // What is only read has a name of its own, so that what it holds stays known to the proof.
     let row2col = &mut *outputs.row2col;
@@ -58,8 +57,7 @@ pub fn edit_column(
         ≡ outcome size starts.now rows.now edited.0 replacement.now (held work.old outputs.old) }
     ensures meaning { Means size starts.now rows.now edited.0 replacement.now (held work.old outputs.old)
         (held work.new outputs.new) result }
-    ensures same_slices { (work.new ≡ holding_work work.old (held_work work.new))
-        × (outputs.new ≡ holding_outputs outputs.old (held_outputs outputs.new)) }
+    ensures same_slices { SameSlices work.old work.new × SameOutputs outputs.old outputs.new }
 {
     let entries = edit_entries(size, rows);
     let short = lacks_room(size, entries, work, outputs);

@@ -7,9 +7,9 @@ ghost use Rattle.sparse.specs.Columns.{columns};
 ghost use Rattle.sparse.specs.Refusals.{Roomy};
 ghost use Rattle.rematching.specs.Checks.{Editable};
 ghost use Rattle.rematching.specs.Rematching.{rematching};
-ghost use Rattle.triangular.specs.Outcome.{Work, lent, buffers, held_work, holding_work, held_outputs, holding_outputs, held};
+ghost use Rattle.triangular.specs.Outcome.{Work, lent, buffers, held_work, held_outputs, holding_outputs, held};
 ghost use Rattle.triangular.specs.Outcome.{form_need, starts_need, ended, unmatchable};
-ghost use Rattle.triangular.specs.Parts.{SameWork};
+ghost use Rattle.triangular.specs.Parts.{SameWork, SameSlices, SameOutputs};
 ghost use Rattle.edit.specs.Outcome.{edit_entries, refused_outputs, handed_out};
 
 use matching::SearchWork;
@@ -61,8 +61,7 @@ pub fn edit_valid(
         (take mat.now.mat.size outputs.old.row2col.now) edit.now.column.0) }
     ensures same_work { SameWork mat.now.mat.size (edit_entries mat.now.mat.size mat.now.mat.rows.now) (held_work work.old)
         (held_work work.new) }
-    ensures same_slices { (work.new ≡ holding_work work.old (held_work work.new))
-        × (outputs.new ≡ holding_outputs outputs.old (held_outputs outputs.new)) }
+    ensures same_slices { SameSlices work.old work.new × SameOutputs outputs.old outputs.new }
 {
     let size = mat.mat.size;
     clear(work.visited, size);
