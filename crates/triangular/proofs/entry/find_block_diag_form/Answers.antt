@@ -3,8 +3,8 @@ use Rattle.std.proofs.Common.{rules, Err, sym, ap, ◌∙◌, length}
 use Rattle.std.proofs.lemmas.Result.{err_from_is_err_and}
 use Rattle.sparse.specs.Refusals.{checked}
 use Rattle.sparse.proofs.Early.{early_passed}
-use Rattle.triangular.specs.Outcome.{BlockAnswer, held_work, held_outputs, held, ended, work_buffers, output_buffers}
-use Rattle.triangular.proofs.Room.{work_kept, roomy_split}
+use Rattle.triangular.specs.Outcome.{BlockAnswer, held_work, held_outputs, held, ended}
+use Rattle.triangular.proofs.Room.{kept_room}
 use Rattle.triangular.proofs.Outcome.{early_outcome, outcome_means}
 use Rattle.triangular.proofs.Valid.{tested_exit}
 use Rattle.triangular.proofs.Work.{same_cleared}
@@ -28,12 +28,8 @@ block_tested-answer-requires c =
 pub clear_work-requires : goal.clear_work-requires
 clear_work-requires c =
     let found = c.check_early.ensures.value _ c.lacks_room-short.ensures in
-    let room = (early_passed _ _ _ _ (sym found ∙ ap checked c.in_ok-mat.was)).room in
-    let size = c.args.size in
-    let entries = length c.args.rows.now in
-    let before = held_work c.args.work.now in
-    work_kept size entries before (held_work c.block_tested-answer.new.work) c.block_tested-answer.ensures.same_work
-    (roomy_split (work_buffers size entries before) (output_buffers size (held_outputs c.args.outputs.now)) room).0
+    kept_room c.args.size (length c.args.rows.now) (held c.args.work.now c.args.outputs.now) c.block_tested-answer.ensures.same_work
+    (early_passed _ _ _ _ (sym found ∙ ap checked c.in_ok-mat.was)).room
 
 pub returns : goal.returns
 returns c =
