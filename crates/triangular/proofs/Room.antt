@@ -89,3 +89,17 @@ work_kept size entries w w' S h =
 pub kept_room : {n k : ℕ} {w : Work} (size entries : ℕ) (l : Lent) → SameWork n k l.inner w → Roomy (buffers size entries l)
     → Roomy (work_buffers size entries w)
 kept_room {w = w} size entries l S R = work_kept size entries l.inner w S (lent_room size entries l R).0
+
+pub still_roomy : {n k : ℕ} {w : Work} (size entries : ℕ) (l : Lent) → SameWork n k l.inner w → Roomy (buffers size entries l)
+    → Roomy (buffers size entries (record l { inner = w }))
+still_roomy size entries l S R =
+    rw (
+      S.visited.same_length,
+      S.cheap.same_length,
+      S.finished.same_length,
+      S.col2row.same_length,
+      S.backstarts.same_length,
+      S.backrows.same_length,
+      S.cols.same_length,
+      S.places.same_length,
+    ) R

@@ -4,8 +4,8 @@ use Rattle.std.proofs.lemmas.Result.{err_from_is_err_and}
 use Rattle.sparse.specs.Refusals.{checked}
 use Rattle.sparse.proofs.Early.{early_passed}
 use Rattle.edit.specs.Outcome.{edit_entries}
-use Rattle.triangular.specs.Outcome.{BlockAnswer, held_work, held_outputs, held, ended, work_buffers, output_buffers}
-use Rattle.triangular.proofs.Room.{work_kept, roomy_split}
+use Rattle.triangular.specs.Outcome.{BlockAnswer, held_work, held_outputs, held, ended}
+use Rattle.triangular.proofs.Room.{kept_room}
 use Rattle.triangular.proofs.Work.{same_cleared}
 use Rattle.edit.proofs.Outcome.{early_outcome, outcome_means, tested_exit}
 use Rattle.edit.proofs.entry.edit_column.Goals as goal
@@ -22,8 +22,6 @@ returns-in_err-mat c =
 
 pub edit_tested-answer-requires : goal.edit_tested-answer-requires
 edit_tested-answer-requires c =
-    let l = held c.args.work.now c.args.outputs.now in
-    let entries = edit_entries c.args.size c.args.rows.now in
     let found = c.check_early.ensures.value _ (rw c.edit_entries-entries.ensures at c.lacks_room-short.ensures) in
     let mat = c.in_ok-mat.ensures in
     rw (mat.size, mat.rows) (early_passed _ _ _ _ (sym found ∙ ap checked c.in_ok-mat.was)).room
@@ -33,9 +31,8 @@ clear_work-requires c =
     let l = held c.args.work.now c.args.outputs.now in
     let entries = edit_entries c.args.size c.args.rows.now in
     let found = c.check_early.ensures.value _ (rw c.edit_entries-entries.ensures at c.lacks_room-short.ensures) in
-    let room = (early_passed _ _ _ _ (sym found ∙ ap checked c.in_ok-mat.was)).room in
-    rw c.edit_entries-entries.ensures (work_kept c.args.size entries l.inner (held_work c.edit_tested-answer.new.work) c.edit_tested-answer.ensures.same_work
-    (roomy_split (work_buffers c.args.size entries l.inner) (output_buffers c.args.size l.outer) room).0)
+    rw c.edit_entries-entries.ensures (kept_room c.args.size entries l c.edit_tested-answer.ensures.same_work
+    (early_passed _ _ _ _ (sym found ∙ ap checked c.in_ok-mat.was)).room)
 
 pub returns : goal.returns
 returns c =
