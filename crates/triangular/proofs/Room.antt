@@ -1,20 +1,8 @@
--- The tests of the block form's buffers, put together, and the room in them slice by slice.
-use Rattle.std.proofs.Common.{ℕ, ◌≡◌, ◌≤◌, refl, ap, ◌∙◌, Bool, true, false, ◌||◌, List, [], ◌∷◌, ◌++◌, arith, ltb, length}
-use Rattle.sparse.specs.Refusals.{Buffer, one_short, Roomy}
-use Rattle.std.proofs.Math.Bool.{or_assoc}
+-- The room in the block form's buffers, slice by slice.
+use Rattle.std.proofs.Common.{ℕ, ◌≤◌, List, [], ◌∷◌, ◌++◌, length}
+use Rattle.sparse.specs.Refusals.{Buffer, Roomy}
 use Rattle.triangular.specs.Parts.{SameWork}
-use Rattle.triangular.specs.Outcome.{Work, Outputs, form_need, starts_need, entries_need, work_buffers, output_buffers}
-use Rattle.triangular.specs.Outcome.{Lent, buffers}
-
--- the test of two lists of buffers
-pub short_append : (a b : List Buffer) → one_short (a ++ b) ≡ one_short a || one_short b
-unfolding one_short
-short_append [] b = refl
-short_append (x ∷ a) b = ap (λ (t : Bool). ltb x.len x.need || t) (short_append a b) ∙ go (ltb x.len x.need)
-  where
-    go : (t : Bool) → t || (one_short a || one_short b) ≡ (t || one_short a) || one_short b
-    go true = refl
-    go false = refl
+use Rattle.triangular.specs.Outcome.{Work, Lent, form_need, starts_need, entries_need, work_buffers, output_buffers, buffers}
 
 -- room in two lists of buffers is room in each
 pub roomy_split : (a b : List Buffer) → Roomy (a ++ b) → Roomy a × Roomy b
@@ -52,23 +40,6 @@ pub lent_room : (size entries : ℕ) (l : Lent) → Roomy (buffers size entries 
     → Roomy (work_buffers size entries l.inner) × (form_need size ≤ length l.outer.row2col)
 lent_room size entries l R =
     let t = roomy_split (work_buffers size entries l.inner) (output_buffers size l.outer) R in (t.0, t.1.0)
-
--- the tests of workspace and stack, joined
-pub work_test : (size entries : ℕ) (w : Work)
-    → (ltb (length w.visited) (form_need size) || ltb (length w.cheap) (form_need size) || ltb (length w.finished) (form_need size)
-    || ltb (length w.col2row) (form_need size) || ltb (length w.backstarts) (starts_need size)
-    || ltb (length w.backrows) (entries_need entries) || ltb (length w.scol) (form_need size) || ltb (length w.sat) (form_need size))
-    ≡ one_short (work_buffers size entries w)
-unfolding one_short
-work_test size entries w = grind (arith, or_assoc)
-
--- the tests of the outputs
-pub output_test : (size : ℕ) (o : Outputs)
-    → (ltb (length o.row2col) (form_need size) || ltb (length o.hall) (form_need size) || ltb (length o.blockcols) (form_need size)
-    || ltb (length o.blockstarts) (starts_need size))
-    ≡ one_short (output_buffers size o)
-unfolding one_short
-output_test size o = grind (arith, or_assoc)
 
 -- slices that stay keep their room
 pub work_kept : {n k : ℕ} (size entries : ℕ) (w w' : Work) → SameWork n k w w' → Roomy (work_buffers size entries w)

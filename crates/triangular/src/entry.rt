@@ -15,7 +15,7 @@ use matching::SearchWork;
 use matching::diagonal::match_valid;
 use sparse::checks::{check_early, check_repeats};
 use sparse::slices::clear;
-use sparse::{EditedMat, Refusal, SquareMat};
+use sparse::{Refusal, SquareMat};
 
 // The block form of a valid matrix, over stamps that are zero. What the workspace holds afterwards is the caller's to clear.
 pub fn block_valid(
@@ -43,11 +43,7 @@ pub fn block_valid(
         clear_blocks(mat.mat.size, outputs);
         return matched.map(|()| 0);
     };
-    let unedited = EditedMat {
-        mat: mat.mat,
-        edit: None,
-    };
-    let count = block_matched(&unedited, work, outputs);
+    let count = block_matched(&mat.mat.unedited(), work, outputs);
     Ok(count)
 }
 

@@ -2,9 +2,10 @@
 ghost use Rattle.std.specs.Prelude.{◌≡◌, ◌≤◌, length};
 ghost use Rattle.sparse.specs.Buffers.{zeroed};
 ghost use Rattle.sparse.specs.Refusals.{one_short, Roomy};
-ghost use Rattle.triangular.specs.Outcome.{form_need, starts_need, entries_need, work_buffers, output_buffers, buffers};
+ghost use Rattle.triangular.specs.Outcome.{form_need, starts_need, entries_need, work_buffers, buffers};
 ghost use Rattle.triangular.specs.Outcome.{held_work, holding_work, held_outputs, holding_outputs, held, with_blocks, cleared};
 
+use sparse::checks::any_short;
 use sparse::slices::clear;
 
 // The workspace and the stack: by column the stamp of its last visit and its cheap place, the columns as they finish, the row of
@@ -51,37 +52,25 @@ pub fn entries_need(entries: usize) -> usize
     entries
 }
 
-// Whether a slice of the workspace or of the stack is shorter than its need.
-fn lacks_work(size: u32, entries: usize, work: &FormWork) -> bool
-    ensures { result ≡ one_short (work_buffers size entries (held_work work.now)) }
-{
-    let need = form_need(size) as usize;
-    (work.visited.len() < need)
-        | (work.cheap.len() < need)
-        | (work.finished.len() < need)
-        | (work.col2row.len() < need)
-        | (work.backstarts.len() < starts_need(size))
-        | (work.backrows.len() < entries_need(entries))
-        | (work.scol.len() < need)
-        | (work.sat.len() < need)
-}
-
-// Whether an output is shorter than its need.
-fn lacks_outputs(size: u32, outputs: &FormOutputs) -> bool
-    ensures { result ≡ one_short (output_buffers size (held_outputs outputs.now)) }
-{
-    let need = form_need(size) as usize;
-    (outputs.row2col.len() < need)
-        | (outputs.hall.len() < need)
-        | (outputs.blockcols.len() < need)
-        | (outputs.blockstarts.len() < starts_need(size))
-}
-
 // Whether a buffer is shorter than its need, with room asked for so many entries.
 pub fn lacks_room(size: u32, entries: usize, work: &FormWork, outputs: &FormOutputs) -> bool
     ensures { result ≡ one_short (buffers size entries (held work.now outputs.now)) }
 {
-    lacks_work(size, entries, work) | lacks_outputs(size, outputs)
+    let need = form_need(size) as usize;
+    any_short(&[
+        (work.visited.len(), need),
+        (work.cheap.len(), need),
+        (work.finished.len(), need),
+        (work.col2row.len(), need),
+        (work.backstarts.len(), starts_need(size)),
+        (work.backrows.len(), entries_need(entries)),
+        (work.scol.len(), need),
+        (work.sat.len(), need),
+        (outputs.row2col.len(), need),
+        (outputs.hall.len(), need),
+        (outputs.blockcols.len(), need),
+        (outputs.blockstarts.len(), starts_need(size)),
+    ])
 }
 
 // The first k numbers become zero, for a count of starts or of entries, which may be more than a number of columns.
