@@ -12,16 +12,14 @@ use Rattle.graph.specs.Lists.{Mem, elem}
 use Rattle.graph.specs.Matchings.{Col, Pattern}
 use Rattle.graph.specs.Walks.{Walked, enter, finish, each, visit}
 use Rattle.graph.specs.Blocks.{targets, cut}
-use Rattle.graph.proofs.Lists.{elem_mem, mem_elem, not_elem, elem_not}
+use Rattle.graph.proofs.Lists.{mem_elem, elem_not}
 use Rattle.graph.proofs.Walks.{Walks, enters_listed, enters_in_front, stays_entered}
 use Rattle.sparse.specs.Buffers.{zeroed}
-use Rattle.sparse.specs.Limits.{max_size}
 use Rattle.sparse.proofs.Buffers.{drop-zeroed, front_filled}
 use Rattle.blocks.specs.Walk.{last_first, walked, WalkEnds, SameFrom}
 use Rattle.blocks.specs.declared.walk.WalkWork.{WalkWork}
 use Rattle.blocks.specs.Cut.{second_pass, PassReady, CutReady, HoldsBlocks}
 use Rattle.blocks.specs.Form.{starts_from, block_starts}
-use Rattle.blocks.specs.Parts.{BlockEnds}
 use Rattle.blocks.proofs.Stored.{length_starts}
 use Rattle.blocks.proofs.Held.{length_last_first, stamped_few}
 use Rattle.blocks.proofs.Passes.{visit_old, Pass, pass_start, pass_more, pass_all, rule_walks}
@@ -153,11 +151,13 @@ pub record Progress (n : ℕ) (kids : Col → List Col) (order rest s : List Col
   pub all : (c : Col) → c < n → Mem c s ⊎ Mem c (last_first order i)
   pub starts_are : starts ≡ block_starts n done ++ rest
 
--- the walk from column c entered nothing or something
-data Entered (n : ℕ) (kids : Col → List Col) (c : Col) (s t : List Col) : Type 0 where
-  old : Mem c s → t ≡ s → Entered n kids c s t
-  new : ¬ Mem c s → (a : List Col) → t ≡ a ++ s → 0 < length a → (visit kids n c (record { entered = s; finished = [] })).entered ≡ t
-      → Entered n kids c s t
+-- the walk from column c, which was not entered before, put some columns in front of those entered
+record Enters (n : ℕ) (kids : Col → List Col) (c : Col) (s t : List Col) : Type 0 where
+  fresh : ¬ Mem c s
+  a : List Col
+  in_front : t ≡ a ++ s
+  some : 0 < length a
+  walks : (visit kids n c (record { entered = s; finished = [] })).entered ≡ t
 
 -- what was entered stays so, and column c is entered
 record Stays (c : Col) (s t : List Col) : Type 0 where
@@ -172,43 +172,46 @@ all_more order j {s} {t} K all x h = ⊎_elim (λ i. inl (K.stays x i)) listed (
     listed : Mem x (get_or order j 0 ∷ last_first order j) → Mem x t ⊎ Mem x (last_first order j)
     listed i = ⊎_elim (λ e. inl (Memᴰ.cast e K.in_t)) (λ m. inr m) (Memᴰ.cases_cons i)
 
--- a walk from the next listed column is one block more where it entered something
-progress_more : {n : ℕ} {kids : Col → List Col} {order rest s t : List Col} {starts starts' : List ℕ} {b b' k r j : ℕ}
-    → Progress n kids order rest s starts b (suc j) → Entered n kids (get_or order j 0) s t → Stays (get_or order j 0) s t
-    → length s ≡ k → length t ≡ r → r ≤ n → BlockEnds b k r starts starts' b' → Progress n kids order rest t starts' b' j
-progress_more {n} {kids} {order} {rest} {s} {t} {starts} {starts'} {b} {b'} {k} {r} {j} P (old i e) K ls lt room B =
-    let same = B.same (sym ls ∙ ap length (sym e) ∙ lt) in
-    record {
-      done = P.done;
-      leads =
-          ap (λ (x : List Col). P.done ++ cut kids n x (last_first order j)) e
-          ∙ ap (λ (x : List (List Col)). P.done ++ x) (sym (cut_old kids n s (get_or order j 0) (last_first order j) i)) ∙ P.leads;
-      columns = ap reverse e ∙ P.columns;
-      counted = same.1 ∙ P.counted;
-      few = omega (arith, P.few, ap length e);
-      all = all_more order j K P.all;
-      starts_are = same.0 ∙ P.starts_are;
-    }
-progress_more {n} {kids} {order} {rest} {s} {t} {starts} {starts'} {b} {b'} {k} {r} {j} P (new fresh a e some v) K ls lt room B =
-    let long : length t ≡ length a + length s = ap length e ∙ length-append a s in
-    let more = B.more (λ z. omega (arith, long, some, ls, lt)) in
+-- where the next listed column was entered before, there is no block more
+progress_old : {n : ℕ} {kids : Col → List Col} {order rest s t : List Col} {starts : List ℕ} {b j : ℕ}
+    → Progress n kids order rest s starts b (suc j) → Mem (get_or order j 0) s → t ≡ s → Stays (get_or order j 0) s t
+    → Progress n kids order rest t starts b j
+progress_old {n} {kids} {order} {rest} {s} {t} {starts} {b} {j} P i e K = record {
+  done = P.done;
+  leads =
+      ap (λ (x : List Col). P.done ++ cut kids n x (last_first order j)) e
+      ∙ ap (λ (x : List (List Col)). P.done ++ x) (sym (cut_old kids n s (get_or order j 0) (last_first order j) i)) ∙ P.leads;
+  columns = ap reverse e ∙ P.columns;
+  counted = P.counted;
+  few = omega (arith, P.few, ap length e);
+  all = all_more order j K P.all;
+  starts_are = P.starts_are;
+}
+
+-- else what a walk from it enters is one block more
+progress_new : {n : ℕ} {kids : Col → List Col} {order rest s t : List Col} {starts starts' : List ℕ} {b r j : ℕ}
+    → Progress n kids order rest s starts b (suc j) → Enters n kids (get_or order j 0) s t → Stays (get_or order j 0) s t
+    → length t ≡ r → r ≤ n → starts' ≡ set starts (b + 1) r → Progress n kids order rest t starts' (b + 1) j
+progress_new {n} {kids} {order} {rest} {s} {t} {starts} {starts'} {b} {r} {j} P E K lt room B =
+    let a = E.a in
+    let long : length t ≡ length a + length s = ap length E.in_front ∙ length-append a s in
     let columns : reverse t ≡ flatten P.done ++ reverse a =
-    ap reverse e ∙ reverse-append a s ∙ ap (λ (x : List ℕ). x ++ reverse a) P.columns in
+    ap reverse E.in_front ∙ reverse-append a s ∙ ap (λ (x : List ℕ). x ++ reverse a) P.columns in
     let ends : r ≡ length (flatten P.done ++ reverse a) = sym lt ∙ sym (length-reverse t) ∙ ap length columns in
     let count : length (P.done ++ (reverse a ∷ [])) ≡ length P.done + 1 = length-append P.done (reverse a ∷ []) in
     record {
       done = P.done ++ (reverse a ∷ []);
       leads =
           append_assoc P.done (reverse a ∷ []) (cut kids n t (last_first order j))
-          ∙ ap (λ (x : List (List Col)). P.done ++ x) (sym (cut_new kids n s (get_or order j 0) (last_first order j) t a fresh v e))
-          ∙ P.leads;
+          ∙ ap (λ (x : List (List Col)). P.done ++ x)
+          (sym (cut_new kids n s (get_or order j 0) (last_first order j) t a E.fresh E.walks E.in_front)) ∙ P.leads;
       columns = columns ∙ sym (flatten_snoc P.done (reverse a));
-      counted = omega (arith, more.1, P.counted, count);
-      few = omega (arith, P.few, long, some, count);
+      counted = omega (arith, P.counted, count);
+      few = omega (arith, P.few, long, E.some, count);
       all = all_more order j K P.all;
       starts_are =
-          more.0 ∙ ap (λ (x : List ℕ). set x (b + 1) r) P.starts_are
-          ∙ starts_more n P.done (reverse a) rest b r (omega (arith, P.few, long, some, lt, room)) P.counted ends;
+          B ∙ ap (λ (x : List ℕ). set x (b + 1) r) P.starts_are
+          ∙ starts_more n P.done (reverse a) rest b r (omega (arith, P.few, long, E.some, lt, room)) P.counted ends;
     }
 
 -- the columns listed at i and behind were walked from: b blocks are done
@@ -252,110 +255,138 @@ seconds_column {n} {order = order} {i = i} S l e =
     subst (λ (x : ℕ). x < n) (sym e)
     ((S.listed (get_or order (i - 1) 0)).0 (last_first_has order n (i - 1) (omega (arith, l, S.below))))
 
--- what the walk from it enters
-entered_is : {n : ℕ} {col : Pattern} {m : List Col} {mark : ℕ} {w₀ w w' : WalkWork} {k r : ℕ}
-    → Pass n col m mark w₀ w k → (c : Col) → c < n → WalkEnds n col m c mark k w w' r
-    → Entered n (targets col m) c (last_first w.entered.now k) (last_first w'.entered.now r)
-    × Stays c (last_first w.entered.now k) (last_first w'.entered.now r)
-entered_is {n} {col} {m} {w = w} {w' = w'} {k = k} {r = r} P c low W = (
-  go (elem c s) refl,
-  record {
-    stays = λ x i. subst (Mem x) (sym is) (stays_entered walks x i);
-    in_t = subst (Mem c) (sym is) (enters_listed walks c (Memᴰ.head refl));
-  },
-)
+-- with the stamp it was entered before, and no walk from it enters anything
+enters_none : {n : ℕ} {col : Pattern} {m : List Col} {mark : ℕ} {c : Col} {w₀ w w' : WalkWork} {k r : ℕ}
+    → Pass n col m mark w₀ w k → c < n → get_or w.visited.now c 0 ≡ mark → WalkEnds n col m c mark k w w' r
+    → Mem c (last_first w.entered.now k) × (last_first w'.entered.now r ≡ last_first w.entered.now k)
+enters_none {n} {col} {m} {c = c} {w = w} {k = k} P low z W =
+    let i = (P.stamped.exactly c low).0 z in (
+      i,
+      ap (λ x. x.entered) (W.walks ∙ visit_old (targets col m) n c (walked w.entered.now w.finished.now k) i),
+    )
+
+-- after the walk from it, it and what was entered before is entered
+stays_in : {n : ℕ} {col : Pattern} {m : List Col} {mark : ℕ} {c : Col} {w₀ w w' : WalkWork} {k r : ℕ}
+    → Pass n col m mark w₀ w k → c < n → WalkEnds n col m c mark k w w' r
+    → Stays c (last_first w.entered.now k) (last_first w'.entered.now r)
+stays_in {c = c} P low W =
+    let walks = rule_walks P c low in
+    let is = sym (ap (λ x. x.entered) W.walks) in
+    record {
+      stays = λ x i. subst (Mem x) is (stays_entered walks x i);
+      in_t = subst (Mem c) is (enters_listed walks c (Memᴰ.head refl));
+    }
+
+-- without the stamp a walk from it enters some columns
+enters_some : {n : ℕ} {col : Pattern} {m : List Col} {mark : ℕ} {c : Col} {w₀ w w' : WalkWork} {k r : ℕ}
+    → Pass n col m mark w₀ w k → c < n → get_or w.visited.now c 0 ≢ mark → WalkEnds n col m c mark k w w' r
+    → Enters n (targets col m) c (last_first w.entered.now k) (last_first w'.entered.now r)
+enters_some {n} {col} {m} {c = c} {w = w} {w' = w'} {k = k} {r = r} P low ne W = record {
+  fresh = fresh;
+  a = f.0;
+  in_front = is ∙ f.1;
+  some = some f.0 in_a;
+  walks =
+      visit_entered kids n c (record { entered = s; finished = [] }) (walked w.entered.now w.finished.now k) refl ∙ sym is;
+}
   where
-    es : List Col
-    es = w.entered.now
-
-    fs : List Col
-    fs = w.finished.now
-
-    es' : List Col
-    es' = w'.entered.now
-
     s : List Col
-    s = last_first es k
+    s = last_first w.entered.now k
 
     kids : Col → List Col
     kids = targets col m
 
     walk : Walked
-    walk = visit kids n c (walked es fs k)
+    walk = visit kids n c (walked w.entered.now w.finished.now k)
 
-    walks : Walks kids (walked es fs k) (c ∷ []) walk
+    walks : Walks kids (walked w.entered.now w.finished.now k) (c ∷ []) walk
     walks = rule_walks P c low
 
-    is : last_first es' r ≡ walk.entered
+    is : last_first w'.entered.now r ≡ walk.entered
     is = ap (λ x. x.entered) W.walks
+
+    fresh : ¬ Mem c s
+    fresh i = ne ((P.stamped.exactly c low).1 i)
+
+    f : (a : List Col) × (walk.entered ≡ a ++ s) × ((x : Col) → Mem x a → ¬ Mem x s)
+    f = enters_in_front walks
+
+    in_a : Mem c f.0
+    in_a =
+        ⊎_elim (λ i. i) (λ i. absurd (fresh i))
+        (Memᴰ.append_cases f.0 (subst (Mem c) f.1 (enters_listed walks c (Memᴰ.head refl))))
 
     some : (a : List Col) → Mem c a → 0 < length a
     some [] i = absurd (Memᴰ.not-nil i)
     some (x ∷ a) i = omega arith
-
-    go : (b : Bool) → elem c s ≡ b → Entered n kids c s (last_first es' r)
-    go true e = old (elem_mem c s e) (is ∙ ap (λ x. x.entered) (visit_old kids n c (walked es fs k) (elem_mem c s e)))
-    go false e =
-        let f = enters_in_front walks in
-        let fresh : ¬ Mem c s = not_elem c s e in
-        let in_a : Mem c f.0 =
-        ⊎_elim (λ i. i) (λ i. absurd (fresh i))
-        (Memᴰ.append_cases f.0 (subst (Mem c) f.1 (enters_listed walks c (Memᴰ.head refl)))) in
-        new fresh f.0 (is ∙ f.1) (some f.0 in_a)
-        (visit_entered kids n c (record { entered = s; finished = [] }) (walked es fs k) refl ∙ sym is)
 
 -- at most n columns are walked
 turn_few : {n : ℕ} {col : Pattern} {m : List Col} {c : Col} {mark k : ℕ} {w w' : WalkWork} {r : ℕ}
     → WalkEnds n col m c mark k w w' r → r ≤ n
 turn_few {w' = w'} {r = r} W = omega (arith, length_last_first w'.entered.now r, stamped_few W.stamped)
 
--- the end of a block can be stored where there is one
+-- where there is one block more, there were fewer than n
 pub seconds_room : {n : ℕ} {col : Pattern} {m order : List Col} {w₀ w w' : WalkWork} {starts₀ starts : List ℕ} {b k i : ℕ} {c : Col} {r : ℕ}
-    → Seconds n col m order w₀ starts₀ w starts b k i → n ≤ max_size → c < n
-    → WalkEnds n col m c second_pass k w w' r → k ≢ r → (b < max_size) × (b + 1 < length starts)
-seconds_room {n} {col} {m} {w = w} {w' = w'} {starts = starts} {b = b} {k = k} {c = c} {r = r} S small low W ne =
-    go (entered_is S.pass c low W).0
-  where
-    s : List Col
-    s = last_first w.entered.now k
-
-    long : length s ≡ k
-    long = length_last_first w.entered.now k
-
-    long' : length (last_first w'.entered.now r) ≡ r
-    long' = length_last_first w'.entered.now r
-
-    go : Entered n (targets col m) c s (last_first w'.entered.now r) → (b < max_size) × (b + 1 < length starts)
-    go (old i e) = absurd (ne (sym long ∙ ap length (sym e) ∙ long'))
-    go (new fresh a e some v) =
-        let z : r ≡ length a + k = omega (arith, long, long', ap length e, length-append a s) in
-        let l : b + 1 ≤ n = omega (arith, z, some, turn_few W, S.progress.few, S.progress.counted, long) in
-        (omega arith, omega (arith, S.starts_long))
-
--- after the next listed column
-pub seconds_more : {n : ℕ} {col : Pattern} {m order : List Col} {w₀ w w' : WalkWork} {starts₀ starts starts' : List ℕ} {b k i : ℕ}
-    {c : Col} {r b' : ℕ}
-    → Seconds n col m order w₀ starts₀ w starts b k i → 0 < i → c ≡ get_or order (i - 1) 0
-    → WalkEnds n col m c second_pass k w w' r → SameFrom n w w'
-    → BlockEnds b k r starts starts' b' → length starts' ≡ length starts
-    → Seconds n col m order w₀ starts₀ w' starts' b' r (i - 1)
-seconds_more {n} {col} {m} {order} {w = w} {w' = w'} {starts₀ = starts₀} {starts = starts} {b = b} {k = k} {i = i} {c = c} {r = r}
-    S some at E same B l =
+    → Seconds n col m order w₀ starts₀ w starts b k i → 0 < i → c ≡ get_or order (i - 1) 0 → get_or w.visited.now c 0 ≢ second_pass
+    → WalkEnds n col m c second_pass k w w' r → b < n
+seconds_room {w = w} {w' = w'} {k = k} {r = r} S some at ne W =
+    let E = enters_some S.pass (seconds_column S some at) ne W in
     let s = last_first w.entered.now k in
-    let s' = last_first w'.entered.now r in
-    let t = subst (λ x. Entered n (targets col m) x s s' × Stays x s s') at
-    (entered_is S.pass c (seconds_column S some at) E) in
-    let P : Progress n (targets col m) order (drop (n + 1) starts₀) s starts b (suc (i - 1)) =
-    subst (Progress n (targets col m) order (drop (n + 1) starts₀) s starts b) (omega (arith, some)) S.progress in
-    record {
-      pass = pass_more S.pass E same;
-      listed = S.listed;
-      order_long = S.order_long;
-      starts_long = omega (arith, S.starts_long);
-      starts_length = l ∙ S.starts_length;
-      below = omega (arith, S.below);
-      progress = progress_more P t.0 t.1 (length_last_first w.entered.now k) (length_last_first w'.entered.now r) (turn_few E) B;
-    }
+    omega (
+      arith,
+      length_last_first w'.entered.now r,
+      ap length E.in_front ∙ length-append E.a s,
+      E.some,
+      turn_few W,
+      S.progress.few,
+      S.progress.counted,
+    )
+
+-- after the next listed column, whichever way it goes
+seconds_next : {n : ℕ} {col : Pattern} {m order : List Col} {w₀ w w' : WalkWork} {starts₀ starts starts' : List ℕ} {b b' k i : ℕ}
+    {c : Col} {r : ℕ}
+    → Seconds n col m order w₀ starts₀ w starts b k i → 0 < i → c ≡ get_or order (i - 1) 0
+    → WalkEnds n col m c second_pass k w w' r → SameFrom n w w' → length starts' ≡ length starts
+    → (Progress n (targets col m) order (drop (n + 1) starts₀) (last_first w.entered.now k) starts b (suc (i - 1))
+    → c ≡ get_or order (i - 1) 0 → Progress n (targets col m) order (drop (n + 1) starts₀) (last_first w'.entered.now r) starts' b' (i - 1))
+    → Seconds n col m order w₀ starts₀ w' starts' b' r (i - 1)
+seconds_next {n} {col} {m} {order} {w = w} {starts₀ = starts₀} {starts = starts} {b = b} {k = k} S some at E same l on = record {
+  pass = pass_more S.pass E same;
+  listed = S.listed;
+  order_long = S.order_long;
+  starts_long = omega (arith, S.starts_long);
+  starts_length = l ∙ S.starts_length;
+  below = omega (arith, S.below);
+  progress = on (subst (Progress n (targets col m) order (drop (n + 1) starts₀) (last_first w.entered.now k) starts b)
+      (omega (arith, some)) S.progress) at;
+}
+
+-- where it has the stamp nothing is noted
+pub seconds_old : {n : ℕ} {col : Pattern} {m order : List Col} {w₀ w w' : WalkWork} {starts₀ starts : List ℕ} {b k i : ℕ} {c : Col} {r : ℕ}
+    → Seconds n col m order w₀ starts₀ w starts b k i → 0 < i → c ≡ get_or order (i - 1) 0 → get_or w.visited.now c 0 ≡ second_pass
+    → WalkEnds n col m c second_pass k w w' r → SameFrom n w w'
+    → Seconds n col m order w₀ starts₀ w' starts b r (i - 1)
+seconds_old {n} {w = w} {w' = w'} {k = k} {c = c} {r = r} S some at z E same =
+    let low = seconds_column S some at in
+    let none = enters_none S.pass low z E in
+    let s = last_first w.entered.now k in
+    seconds_next S some at E same refl (λ P e.
+    progress_old P (subst (λ x. Mem x s) e none.0) none.1
+    (subst (λ x. Stays x s (last_first w'.entered.now r)) e (stays_in S.pass low E)))
+
+-- else the end of a block is
+pub seconds_new : {n : ℕ} {col : Pattern} {m order : List Col} {w₀ w w' : WalkWork} {starts₀ starts starts' : List ℕ} {b k i : ℕ}
+    {c : Col} {r : ℕ}
+    → Seconds n col m order w₀ starts₀ w starts b k i → 0 < i → c ≡ get_or order (i - 1) 0 → get_or w.visited.now c 0 ≢ second_pass
+    → WalkEnds n col m c second_pass k w w' r → SameFrom n w w' → starts' ≡ set starts (b + 1) r → length starts' ≡ length starts
+    → Seconds n col m order w₀ starts₀ w' starts' (b + 1) r (i - 1)
+seconds_new {n} {col} {m} {w = w} {w' = w'} {k = k} {c = c} {r = r} S some at ne E same B l =
+    let low = seconds_column S some at in
+    let s = last_first w.entered.now k in
+    let t = last_first w'.entered.now r in
+    seconds_next S some at E same l (λ P e.
+    progress_new P (subst (λ x. Enters n (targets col m) x s t) e (enters_some S.pass low ne E))
+    (subst (λ x. Stays x s t) e (stays_in S.pass low E)) (length_last_first w'.entered.now r) (turn_few E) B)
 
 -- ---- the end
 

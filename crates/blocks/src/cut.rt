@@ -1,11 +1,9 @@
 // The two passes over all columns that make the block form: the first finishes the columns, the second cuts them into blocks.
-ghost use Rattle.std.specs.Prelude.{◌≡◌, ◌≢◌, [], ◌+◌, ◌≤◌, ◌<◌, length, get_or};
+ghost use Rattle.std.specs.Prelude.{◌≡◌, ◌≢◌, [], ◌+◌, ◌≤◌, ◌<◌, length, get_or, MatchOption, unwrap_or};
 ghost use Rattle.graph.specs.Blocks.{targets, cut};
 ghost use Rattle.sparse.specs.Columns.{columns, edited_columns};
-ghost use Rattle.sparse.specs.Limits.{max_size};
 ghost use Rattle.blocks.specs.Walk.{last_first, Stamped, WalkReady, WalkEnds, SameFrom};
 ghost use Rattle.blocks.specs.Cut.{first_pass, second_pass, PassReady, Finished, CutReady, HoldsBlocks};
-ghost use Rattle.blocks.specs.Parts.{BlockEnds};
 
 use super::walk::{WalkWork, walk};
 use sparse::slices::{clear, get, put};
@@ -16,7 +14,7 @@ const FIRST_PASS: u32 = 1;
 // The stamp of the columns that the second pass walked.
 const SECOND_PASS: u32 = 2;
 
-// Walks from a column unless it was walked before. Returns how many columns were walked.
+// Walks from a column unless it was walked before. Returns how many columns were walked if it did.
 fn walk_new(
     mat: &EditedMat,
     row2col: &[u32],
@@ -24,18 +22,21 @@ fn walk_new(
     mark: u32,
     at: u32,
     work: &mut WalkWork,
-) -> u32
+) -> Option<u32>
     requires start_lt_size { (start.0 < mat.now.mat.size) × (mat.now.mat.size ≤ length work.old.visited.now)
         × Stamped mat.now.mat.size mark work.old.visited.now (last_first work.old.entered.now at) }
     requires walk_ready { get_or work.old.visited.now start.0 0 ≢ mark
         → WalkReady mat.now.mat.size (edited_columns mat.now) row2col.now start.0 mark at work.old }
-    ensures walk_ends { WalkEnds mat.now.mat.size (edited_columns mat.now) row2col.now start.0 mark at work.old work.new result }
+    ensures walked { MatchOption result (get_or work.old.visited.now start.0 0 ≡ mark)
+        (λ _. get_or work.old.visited.now start.0 0 ≢ mark) }
+    ensures walk_ends { WalkEnds mat.now.mat.size (edited_columns mat.now) row2col.now start.0 mark at work.old work.new
+        (unwrap_or result at) }
     ensures same_from { SameFrom mat.now.mat.size work.old work.new }
 {
     if work.stamp(start) == mark {
-        return at;
+        return None;
     }
-    walk(mat, row2col, start, mark, at, work)
+    Some(walk(mat, row2col, start, mark, at, work))
 }
 
 // The first pass: a walk from each column in turn that was not walked yet, so that the columns are noted as they are finished.
@@ -46,20 +47,8 @@ pub fn finish_columns(mat: &EditedMat, row2col: &[u32], work: &mut WalkWork)
 {
     let mut count = 0u32;
     for c in 0..mat.mat.size {
-        count = walk_new(mat, row2col, Column(c), FIRST_PASS, count, work);
+        count = walk_new(mat, row2col, Column(c), FIRST_PASS, count, work).unwrap_or(count);
     }
-}
-
-// Notes the end of a block behind k blocks if a walk entered columns. Returns how many blocks there are.
-fn end_block(k: u32, at: u32, end: u32, blockstarts: &mut [u32]) -> u32
-    requires { at ≢ end → (k < max_size) × (k + 1 < length blockstarts.old) }
-    ensures { BlockEnds k at end blockstarts.old blockstarts.new result }
-{
-    if at == end {
-        return k;
-    }
-    put(blockstarts, k + 1, end);
-    k + 1
 }
 
 // The second pass: a walk from each column that was not walked yet, last finished first, is a block. Returns how many blocks there are.
@@ -87,8 +76,11 @@ pub fn cut_blocks(
     let mut count = 0u32;
     for i in (0..size).rev() {
         let c: Column = get(finished, i);
-        let end = walk_new(&mat, row2col, c, SECOND_PASS, count, work);
-        blocks = end_block(blocks, count, end, blockstarts);
+        let Some(end) = walk_new(&mat, row2col, c, SECOND_PASS, count, work) else {
+            continue;
+        };
+        put(blockstarts, blocks + 1, end);
+        blocks += 1;
         count = end;
     }
     blocks

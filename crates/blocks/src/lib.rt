@@ -2,5 +2,6 @@
 #![tactic(auto)]
 
 pub mod cut;
+pub mod matched;
 pub mod reverse;
 pub mod walk;

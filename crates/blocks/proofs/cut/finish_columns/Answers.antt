@@ -1,13 +1,10 @@
-use Rattle.blocks.proofs.Passes.{firsts_start, firsts_more, firsts_end}
+use Rattle.blocks.proofs.Passes.{firsts_more, firsts_end}
 use Rattle.blocks.proofs.cut.finish_columns.Goals as goal
-
-pub loop-c-init : goal.loop-c-init
-loop-c-init c =
-    firsts_start c.requires
 
 pub loop-c-preserved : goal.loop-c-preserved
 loop-c-preserved c =
-    firsts_more c.loop-c.invariant c.loop-c-test.true c.walk_new-count.ensures.walk_ends c.walk_new-count.ensures.same_from
+    rw c.unwrap_or-count.ensures
+    (firsts_more c.loop-c.invariant c.loop-c-test.true c.walk_new.ensures.walk_ends c.walk_new.ensures.same_from)
 
 pub returns-clause-finished : goal.returns-clause-finished
 returns-clause-finished c =
