@@ -14,6 +14,7 @@ ghost use Rattle.triangular.specs.Parts.{SameWork, SameSlices};
 
 use super::form::{FormOutputs, FormWork};
 use blocks::cut::{cut_blocks, finish_columns};
+use blocks::matched::MatchedMat;
 use blocks::reverse::reverse_graph;
 use blocks::walk::WalkWork;
 use sparse::slices::{clear, get, invert};
@@ -83,7 +84,8 @@ pub fn block_matched(mat: &EditedMat, work: &mut FormWork, outputs: &mut FormOut
     let backstarts = &mut *work.backstarts;
     let backrows = &mut *work.backrows;
     invert::<OriginalRow, Column>(size, row2col, col2row);
-    reverse_graph(mat, row2col, col2row, backstarts, backrows);
+    let matched = MatchedMat { mat: *mat, row2col };
+    reverse_graph(&matched, col2row, backstarts, backrows);
     // Nothing asks for the columns that this pass finishes: they go where the matching's cheap places were.
     let mut second = WalkWork {
         visited: &mut *work.visited,
