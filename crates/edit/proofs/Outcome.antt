@@ -22,13 +22,14 @@ use Rattle.rematching.proofs.Rematching.{rematching_decides, rematching_place, r
 use Rattle.blocks.specs.Form.{columns_of, block_starts, StoredForm}
 use Rattle.triangular.specs.Outcome.{Work, Outputs, Lent, lent, buffers, cleared, BlockAnswer, Outcome, ended}
 use Rattle.triangular.proofs.Outcome.{blocks_stored}
+use Rattle.triangular.proofs.Room.{lent_room}
 use Rattle.edit.specs.Outcome.{edit_entries, handed_out, replaced, outcome, Given, Accepts, Means}
 
 -- ---- what passed checks say
 
 -- where there is room, the slice that lends the old matching has n numbers
 pub matching_room : (size k : ℕ) (l : Lent) → Roomy (buffers size k l) → size ≤ length l.outer.row2col
-matching_room size k l R = R.1.1.1.1.1.1.1.1.0
+matching_room size k l R = (lent_room size k l R).1
 
 -- what passes is given
 pub given : {size : ℕ} {starts : List ℕ} {rows : List Row} {e : Col} {new : List Row} {l : Lent}

@@ -9,7 +9,7 @@ use Rattle.graph.proofs.Lists.{table_ext}
 use Rattle.graph.proofs.Matchings.{perfect_agree}
 use Rattle.graph.proofs.Permutations.{permutes}
 use Rattle.sparse.specs.Buffers.{zeroed}
-use Rattle.sparse.specs.Matrix.{column_or}
+use Rattle.sparse.specs.Matrix.{column_or, Shaped}
 use Rattle.sparse.specs.Columns.{columns}
 use Rattle.sparse.specs.Refusals.{Roomy}
 use Rattle.sparse.specs.declared.Column.{Column}
@@ -30,24 +30,14 @@ use Rattle.rematching.specs.Checks.{Editable}
 use Rattle.rematching.specs.Rematching.{rematching}
 use Rattle.std.proofs.lemmas.Option.{none-some}
 use Rattle.triangular.specs.Outcome.{Work, work, Outputs, outputs, Lent, lent, work_buffers}
-use Rattle.triangular.specs.Outcome.{output_buffers, buffers, ended, unmatchable}
+use Rattle.triangular.specs.Outcome.{buffers, ended, unmatchable}
 use Rattle.triangular.specs.Parts.{SameWork}
-use Rattle.triangular.proofs.Room.{work_kept, roomy_split}
+use Rattle.triangular.proofs.Room.{work_room, work_roomy, kept_room}
 use Rattle.triangular.proofs.Outcome.{Handed, handed_agree, hand_accepted}
-use Rattle.triangular.proofs.Work.{same_then}
+use Rattle.triangular.proofs.Work.{same_then, zeroed_stays}
 use Rattle.edit.specs.Outcome.{edit_entries, refused_outputs, handed_out, Given}
-use Rattle.edit.proofs.Outcome.{given_inside, decides}
+use Rattle.edit.proofs.Outcome.{matching_room, given_inside, decides}
 use Rattle.edit.proofs.EditedEntries.{replacement_few, entries_roomy, edited_once}
-
--- ---- before the search
-
--- a square matrix without repeats, an edit of it, and room
-pub given_edit : (mat : SquareMat) (edit : Edit) (l : Lent) → ((c : Col) → c < mat.mat.size → Once (columns mat.mat c))
-    → Editable mat.mat.size mat.mat.starts.now mat.mat.rows.now edit.column.0 edit.rows.now l.outer.row2col
-    → Roomy (buffers mat.mat.size (edit_entries mat.mat.size mat.mat.rows.now) l)
-    → Given mat.mat.size mat.mat.starts.now mat.mat.rows.now edit.column.0 edit.rows.now l
-given_edit mat edit l once editable room =
-    record { valid = record { shaped = mat.mat.shaped; below = mat.below; once = once }; editable = editable; room = room }
 
 -- ---- what the search hands on
 
@@ -82,14 +72,15 @@ ends_refused size failed col w v o (refused c seen) E em =
 unchanged : {n : ℕ} {xs : List ℕ} → Stays n xs xs
 unchanged = record { same_length = refl; beyond = refl }
 
--- where only the stamps and the row of each column change
-pub columns_same : {n k : ℕ} (w : Work) (v r : List ℕ) → Stays n w.visited v → Stays n w.col2row r
+-- where only the stamps, cleared before, and the row of each column change
+pub checked_same : {n k : ℕ} (w : Work) {stamps v r : List ℕ} → stamps ≡ zeroed n w.visited → length stamps ≡ length w.visited
+    → SameBeyond n stamps v × SameBeyond n w.col2row r → length v ≡ length stamps → length r ≡ length w.col2row
     → SameWork n k w (record w { visited = v; col2row = r })
-columns_same w v r V R = record {
-  visited = V;
+checked_same w z l beyond vl rl = record {
+  visited = stays_then (zeroed_stays z l) (record { same_length = vl; beyond = beyond.0 });
   cheap = unchanged;
   finished = unchanged;
-  col2row = R;
+  col2row = record { same_length = rl; beyond = beyond.1 };
   backstarts = unchanged;
   backrows = unchanged;
   cols = unchanged;
@@ -97,12 +88,13 @@ columns_same w v r V R = record {
 }
 
 -- what a search from s to t leaves, once the stamps and cheap places were cleared
-pub search_same : {n k : ℕ} (w : Work) {s t : SearchWork} {x : Work} → searches.SameWork n s t → Stays n w.visited s.visited.now
-    → Stays n w.cheap s.cheap.now → s.scol.now ≡ w.scol → s.sat.now ≡ w.sat
+pub search_same : {n k : ℕ} (w : Work) {s t : SearchWork} {x : Work} → searches.SameWork n s t
+    → s.visited.now ≡ zeroed n w.visited → length s.visited.now ≡ length w.visited
+    → s.cheap.now ≡ zeroed n w.cheap → length s.cheap.now ≡ length w.cheap → s.scol.now ≡ w.scol → s.sat.now ≡ w.sat
     → x ≡ work t.visited.now t.cheap.now w.finished w.col2row w.backstarts w.backrows t.scol.now t.sat.now → SameWork n k w x
-search_same w S V C f g e = rw e (record {
-  visited = stays_then V S.visited;
-  cheap = stays_then C S.cheap;
+search_same w S v vl c cl f g e = rw e (record {
+  visited = stays_then (zeroed_stays v vl) S.visited;
+  cheap = stays_then (zeroed_stays c cl) S.cheap;
   finished = unchanged;
   col2row = unchanged;
   backstarts = unchanged;
@@ -136,8 +128,17 @@ same_more j l S = record {
 
 -- room for some entries is room for fewer
 fewer_room : {n k : ℕ} (j : ℕ) (w : Work) → k ≤ j → Roomy (work_buffers n j w) → Roomy (work_buffers n k w)
-fewer_room j w l R =
-    (R.0, (R.1.0, (R.1.1.0, (R.1.1.1.0, (R.1.1.1.1.0, (omega (arith, R.1.1.1.1.1.0), R.1.1.1.1.1.1))))))
+fewer_room {n} j w l R =
+    let room = work_room n j w R in work_roomy (record {
+      visited = room.visited;
+      cheap = room.cheap;
+      finished = room.finished;
+      col2row = room.col2row;
+      backstarts = room.backstarts;
+      backrows = omega (arith, room.backrows);
+      scol = room.scol;
+      sat = room.sat;
+    })
 
 -- ---- after the search
 
@@ -150,18 +151,31 @@ pub record Searched (size : ℕ) (starts : List ℕ) (rows : List Row) (e : Col)
   pub matching : SameBeyond size l.outer.row2col m
   pub matching_length : length m ≡ length l.outer.row2col
 
-pub searched : {size : ℕ} {starts : List ℕ} {rows : List Row} {e : Col} {new : List Row} {l : Lent} {r : Option Column}
-    {v m : List ℕ} → Given size starts rows e new l
-    → EndsAt size v m r (rematching size (column_or starts rows e new) (take size l.outer.row2col) e)
-    → (IsSome r → m ≡ l.outer.row2col) → SameBeyond size l.outer.row2col m → length m ≡ length l.outer.row2col
-    → Searched size starts rows e new l r v m
-searched G E k M n = record { given = G; ends = E; kept = k; matching = M; matching_length = n }
+pub searched : (mat : SquareMat) (edit : Edit) (l : Lent) {r : Option Column} {v m : List ℕ}
+    → ((c : Col) → c < mat.mat.size → Once (columns mat.mat c))
+    → Editable mat.mat.size mat.mat.starts.now mat.mat.rows.now edit.column.0 edit.rows.now l.outer.row2col
+    → Roomy (buffers mat.mat.size (edit_entries mat.mat.size mat.mat.rows.now) l)
+    → EndsAt mat.mat.size v m r (rematching mat.mat.size (column_or mat.mat.starts.now mat.mat.rows.now edit.column.0 edit.rows.now)
+    (take mat.mat.size l.outer.row2col) edit.column.0)
+    → (IsSome r → m ≡ l.outer.row2col) → SameBeyond mat.mat.size l.outer.row2col m → length m ≡ length l.outer.row2col
+    → Searched mat.mat.size mat.mat.starts.now mat.mat.rows.now edit.column.0 edit.rows.now l r v m
+searched mat edit l once editable room E k M n = record {
+  given = record {
+    valid = record { shaped = mat.mat.shaped; below = mat.below; once = once };
+    editable = editable;
+    room = room;
+  };
+  ends = E;
+  kept = k;
+  matching = M;
+  matching_length = n;
+}
 
 module _ {size : ℕ} {starts : List ℕ} {rows : List Row} {e : Col} {new : List Row} {l : Lent} {r : Option Column} {v m : List ℕ}
     (S : Searched size starts rows e new l r v m) where
   -- the matching is as long as the size
   long : size ≤ length m
-  long = omega (arith, S.matching_length, S.given.room.1.1.1.1.1.1.1.1.0)
+  long = omega (arith, S.matching_length, matching_room size (edit_entries size rows) l S.given.room)
 
   -- it did not fail: the verdict's matching is handed on
   handed : {hall : List ℕ} → r ≡ None → hall ≡ zeroed size l.outer.hall
@@ -204,15 +218,14 @@ module _ {size : ℕ} {starts : List ℕ} {rows : List Row} {e : Col} {new : Lis
       rw z (ends_refused size failed (column_or starts rows e new) w v l.outer
       (rematching size (column_or starts rows e new) (take size l.outer.row2col) e) (rw f at S.ends) (S.kept (ap is_some f)))
 
-module _ {size : ℕ} {starts : List ℕ} {rows : List Row} {e : Col} {new : List Row} {l : Lent} {w : Work}
-    (G : Given size starts rows e new l) (S : SameWork size (edit_entries size rows) l.inner w) where
+module _ {size : ℕ} {starts : List ℕ} {rows : List Row} {e : Col} {new : List Row} {w : Work} (l : Lent)
+    (shaped : Shaped size starts rows) (E : Editable size starts rows e new l.outer.row2col)
+    (R : Roomy (buffers size (edit_entries size rows) l)) (S : SameWork size (edit_entries size rows) l.inner w) where
   -- a workspace that stays has room for the edited matrix
   pub edited_room : Roomy (work_buffers size (entries size (column_or starts rows e new)) w)
-  edited_room =
-      work_kept size _ l.inner w S (fewer_room (edit_entries size rows) l.inner (entries_roomy G.valid.shaped G.editable)
-      (roomy_split (work_buffers size (edit_entries size rows) l.inner) (output_buffers size l.outer) G.room).0)
+  edited_room = fewer_room (edit_entries size rows) w (entries_roomy shaped E) (kept_room size (edit_entries size rows) l S R)
 
   -- and stays over the passes, which need no more than there is room for
   pub passed_same : {x : Work} → SameWork size (entries size (column_or starts rows e new)) w x
       → SameWork size (edit_entries size rows) l.inner x
-  passed_same A = same_then S (same_more (edit_entries size rows) (entries_roomy G.valid.shaped G.editable) A)
+  passed_same A = same_then S (same_more (edit_entries size rows) (entries_roomy shaped E) A)

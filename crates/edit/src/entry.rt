@@ -1,8 +1,8 @@
 // The entry of the edit.
 ghost use Rattle.std.specs.Prelude.{◌≡◌};
 ghost use Rattle.sparse.specs.Refusals.{Roomy};
-ghost use Rattle.triangular.specs.Outcome.{Work, lent, buffers, held_work, holding_work, held_outputs, holding_outputs, held, ended};
-ghost use Rattle.triangular.specs.Parts.{SameWork};
+ghost use Rattle.triangular.specs.Outcome.{Work, lent, buffers, held_work, held_outputs, held, ended};
+ghost use Rattle.triangular.specs.Parts.{SameWork, SameSlices, SameOutputs};
 ghost use Rattle.edit.specs.Outcome.{edit_entries, replaced, outcome, Means};
 
 use super::valid::edit_valid;
@@ -12,6 +12,13 @@ use sparse::slices::clear;
 use sparse::{Column, Edit, Refusal, SquareMat};
 use triangular::form::{clear_work, lacks_room};
 use triangular::{FormOutputs, FormWork};
+
+// How many entries there must be room for: those of the old matrix, and n more, which a replacement may bring.
+fn edit_entries(size: u32, rows: &[u32]) -> usize
+    ensures { result ≡ edit_entries size rows.now }
+{
+    rows.len() + size as usize
+}
 
 // The edit of a matrix that refusals 1, 2, 5 and 3 let through. What the workspace holds afterwards is the caller's to clear.
 fn edit_tested(
@@ -26,8 +33,7 @@ fn edit_tested(
         (held_outputs outputs.old) }
     ensures same_work { SameWork mat.now.mat.size (edit_entries mat.now.mat.size mat.now.mat.rows.now) (held_work work.old)
         (held_work work.new) }
-    ensures same_slices { (work.new ≡ holding_work work.old (held_work work.new))
-        × (outputs.new ≡ holding_outputs outputs.old (held_outputs outputs.new)) }
+    ensures same_slices { SameSlices work.old work.new × SameOutputs outputs.old outputs.new }
 {
     // What is only read has a name of its own, so that what it holds stays known to the proof.
     let row2col = &mut *outputs.row2col;
@@ -51,17 +57,16 @@ pub fn edit_column(
         ≡ outcome size starts.now rows.now edited.0 replacement.now (held work.old outputs.old) }
     ensures meaning { Means size starts.now rows.now edited.0 replacement.now (held work.old outputs.old)
         (held work.new outputs.new) result }
-    ensures same_slices { (work.new ≡ holding_work work.old (held_work work.new))
-        × (outputs.new ≡ holding_outputs outputs.old (held_outputs outputs.new)) }
+    ensures same_slices { SameSlices work.old work.new × SameOutputs outputs.old outputs.new }
 {
-    let few = work.backrows.len() < rows.len() + size as usize;
-    let short = lacks_room(size, few, work, outputs);
+    let entries = edit_entries(size, rows);
+    let short = lacks_room(size, entries, work, outputs);
     let mat = check_early(size, starts, rows, short)?;
     let edit = Edit {
         column: edited,
         rows: replacement,
     };
     let answer = edit_tested(&mat, &edit, work, outputs);
-    clear_work(size, rows.len() as u32 + size, work);
+    clear_work(size, entries, work);
     answer
 }

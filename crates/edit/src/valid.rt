@@ -4,13 +4,12 @@ ghost use Rattle.graph.specs.Counting.{bit};
 ghost use Rattle.graph.specs.Edits.{edited, former};
 ghost use Rattle.graph.specs.Lists.{Once, table};
 ghost use Rattle.sparse.specs.Columns.{columns};
-ghost use Rattle.sparse.specs.Limits.{max_size};
 ghost use Rattle.sparse.specs.Refusals.{Roomy};
 ghost use Rattle.rematching.specs.Checks.{Editable};
 ghost use Rattle.rematching.specs.Rematching.{rematching};
-ghost use Rattle.triangular.specs.Outcome.{Work, lent, buffers, held_work, holding_work, held_outputs, holding_outputs, held};
+ghost use Rattle.triangular.specs.Outcome.{Work, lent, buffers, held_work, held_outputs, holding_outputs, held};
 ghost use Rattle.triangular.specs.Outcome.{form_need, starts_need, ended, unmatchable};
-ghost use Rattle.triangular.specs.Parts.{SameWork};
+ghost use Rattle.triangular.specs.Parts.{SameWork, SameSlices, SameOutputs};
 ghost use Rattle.edit.specs.Outcome.{edit_entries, refused_outputs, handed_out};
 
 use matching::SearchWork;
@@ -29,7 +28,7 @@ fn refuse_edit(
     work: &FormWork,
     outputs: &mut FormOutputs,
 ) -> Result<u32, Refusal>
-    requires size_le_max_size { (size ≤ max_size) × (c.0 < size) }
+    requires column_in_bounds { c.0 < size }
     requires size_in_bounds { (size ≤ length work.now.visited.now) × (size ≤ length outputs.old.hall.now)
         × (form_need size ≤ length outputs.old.blockcols.now) × (starts_need size ≤ length outputs.old.blockstarts.now) }
     ensures value { result ≡ unmatchable c.0 }
@@ -62,8 +61,7 @@ pub fn edit_valid(
         (take mat.now.mat.size outputs.old.row2col.now) edit.now.column.0) }
     ensures same_work { SameWork mat.now.mat.size (edit_entries mat.now.mat.size mat.now.mat.rows.now) (held_work work.old)
         (held_work work.new) }
-    ensures same_slices { (work.new ≡ holding_work work.old (held_work work.new))
-        × (outputs.new ≡ holding_outputs outputs.old (held_outputs outputs.new)) }
+    ensures same_slices { SameSlices work.old work.new × SameOutputs outputs.old outputs.new }
 {
     let size = mat.mat.size;
     clear(work.visited, size);

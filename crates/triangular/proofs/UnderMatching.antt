@@ -16,7 +16,9 @@ use Rattle.blocks.specs.Walk.{last_first, Room}
 use Rattle.blocks.specs.declared.walk.WalkWork.{WalkWork}
 use Rattle.blocks.specs.Reverse.{entries, Reversible, ReverseRoom, Reversed}
 use Rattle.blocks.specs.Cut.{second_pass, PassReady, Finished, HoldsBlocks}
-use Rattle.triangular.specs.Outcome.{starts_need, entries_need}
+use Rattle.sparse.specs.Refusals.{Roomy}
+use Rattle.triangular.specs.Outcome.{Work, work_buffers, starts_need, entries_need}
+use Rattle.triangular.proofs.Room.{work_room}
 use Rattle.blocks.proofs.Backward.{back_shaped}
 use Rattle.blocks.proofs.Joined.{targets_within, finished_unwalked, back_pattern, cut_is_blocks}
 
@@ -43,43 +45,68 @@ reverse_room few s r = record { starts_long = omega arith; few = few; rows_long 
 
 -- ---- before the second pass
 
+-- the graph under a matching, and its reverse in the slices of the workspace w
+pub record Back (n : ℕ) (col : Pattern) (m inv : List ℕ) (w : Work) (starts rows : List ℕ) : Type 0 where
+  pub small : n ≤ max_size
+  pub reversible : Reversible n col m
+  pub inverse : Inverse n m inv
+  pub room : ReverseRoom n col starts rows
+  pub reversed : Reversed n col m inv w.backstarts w.backrows starts rows
+
+pub back : {n : ℕ} {col : Pattern} {m inv starts rows : List ℕ} (w : Work) → n ≤ max_size
+    → Reversible n col m × (entries n col ≤ max_entries) → Roomy (work_buffers n (entries n col) w)
+    → inv ≡ filled (inverse n m) w.col2row → length starts ≡ length w.backstarts → length rows ≡ length w.backrows
+    → Reversed n col m inv w.backstarts w.backrows starts rows → Back n col m inv w starts rows
+back {n} {col} w small R roomy e s r T =
+    let room = work_room n (entries n col) w roomy in
+    record {
+      small = small;
+      reversible = R.0;
+      inverse = inverse-filled _ w.col2row R.0.permutes e;
+      room = reverse_room R.1 (omega (arith, room.backstarts)) (omega (arith, room.backrows));
+      reversed = T;
+    }
+
 -- the reversed graph in the front of its slices is a matrix
-pub second_shaped : {n : ℕ} {col : Pattern} {m inv : List ℕ} {starts₀ rows₀ starts rows : List ℕ} → n ≤ max_size
-    → ReverseRoom n col starts rows → Reversed n col m inv starts₀ rows₀ starts rows
-    → Shaped n (take (n + 1) starts) (take (get_or starts n 0) rows)
-second_shaped small room T = rw T.to_end (back_shaped small room T)
+pub second_shaped : {n : ℕ} {col : Pattern} {m inv : List ℕ} {w : Work} {starts rows : List ℕ} → Back n col m inv w starts rows
+    → (n < length starts) × (get_or starts n 0 ≤ length rows) × Shaped n (take (n + 1) starts) (take (get_or starts n 0) rows)
+second_shaped B = (
+  B.room.starts_long,
+  omega (arith, B.room.rows_long, B.reversed.to_end),
+  rw B.reversed.to_end (back_shaped B.small B.room B.reversed),
+)
 
 -- over it the second pass may go
-pub second_ready : {n : ℕ} {col : Pattern} {m inv : List ℕ} {starts₀ rows₀ starts rows stamps order : List ℕ} (w : WalkWork)
-    → n ≤ max_size → Reversible n col m → Inverse n m inv → ReverseRoom n col starts rows
-    → Reversed n col m inv starts₀ rows₀ starts rows → Finished n col m stamps order → w.visited.now ≡ stamps → Room n w
-    → PassReady n (column (take (n + 1) starts) (take (get_or starts n 0) rows)) m second_pass w
-second_ready {n} {col} {starts = starts} {rows = rows} w small R I room T F e long =
-    let P = back_pattern small R I room T in
-    rw T.to_end (record {
+pub second_ready : {n : ℕ} {col : Pattern} {m inv : List ℕ} {w : Work} {starts rows stamps order : List ℕ} (walk : WalkWork)
+    → Back n col m inv w starts rows → Finished n col m stamps order → walk.visited.now ≡ stamps → Room n walk
+    → PassReady n (column (take (n + 1) starts) (take (get_or starts n 0) rows)) m second_pass walk
+second_ready walk B F e long =
+    let P = back_pattern B.small B.reversible B.inverse B.room B.reversed in
+    rw B.reversed.to_end (record {
       inside = P.0;
       short = P.1;
-      matched = R.permutes.below;
+      matched = B.reversible.permutes.below;
       unwalked = λ c l. rw e (finished_unwalked F c l);
-      matching_long = R.matching_long;
+      matching_long = B.reversible.matching_long;
       room = long;
     })
 
 -- ---- at the end
 
 -- the blocks cut are the rule's, and fill their slice to the need, whatever the first pass left there
-pub matched_holds : {n : ℕ} {col : Pattern} {m inv : List ℕ} {starts₀ rows₀ starts rows stamps order order' : List ℕ}
-    {es₀ es es' ends₀ es₁ es₂ ends' : List ℕ} {r : ℕ} → n ≤ max_size → Reversible n col m → Inverse n m inv → ReverseRoom n col starts rows
-    → Reversed n col m inv starts₀ rows₀ starts rows → Finished n col m stamps order → drop n es ≡ drop n es₀
+pub matched_holds : {n : ℕ} {col : Pattern} {m inv : List ℕ} {w : Work} {starts rows stamps order order' : List ℕ}
+    {es₀ es es' ends₀ es₁ es₂ ends' : List ℕ} {r : ℕ} → Back n col m inv w starts rows → Finished n col m stamps order
+    → drop n es ≡ drop n es₀
     → HoldsBlocks n (cut (targets (column (take (n + 1) starts) (take (get_or starts n 0) rows)) m) n [] (last_first order' n)) es'
     ends₀ es₁ ends' r → order' ≡ order → es' ≡ es → es₂ ≡ es₁
     → HoldsBlocks n (blocks n (targets col m)) es₀ ends₀ es₂ ends' r
 matched_holds {n} {col} {m} {starts = starts} {rows = rows} {order = order} {es₀ = es₀} {es = es} {ends₀ = ends₀} {es₁ = es₁}
-    {ends' = ends'} {r = r} small R I room T F same H e f g =
+    {ends' = ends'} {r = r} X F same H e f g =
+    let R = X.reversible in
     let G : HoldsBlocks n (cut (targets (column (take (n + 1) starts) (take (entries n col) rows)) m) n [] (last_first order n))
-    es ends₀ es₁ ends' r = rw (T.to_end, e, f) at H in
+    es ends₀ es₁ ends' r = rw (X.reversed.to_end, e, f) at H in
     let B : HoldsBlocks n (blocks n (targets col m)) es ends₀ es₁ ends' r =
-    subst (λ bs. HoldsBlocks n bs es ends₀ es₁ ends' r) (cut_is_blocks small R I room T F) G in
+    subst (λ bs. HoldsBlocks n bs es ends₀ es₁ ends' r) (cut_is_blocks X.small R X.inverse X.room X.reversed F) G in
     let within : Within n (targets col m) = targets_within m R.inside R.permutes.below in
     let long : length (flatten (blocks n (targets col m))) ≡ n = blocks_length n (targets col m) within in
     record {

@@ -5,17 +5,17 @@ ghost use Rattle.sparse.specs.Columns.{columns};
 ghost use Rattle.sparse.specs.Parts.{ZeroBelow};
 ghost use Rattle.sparse.specs.Refusals.{Roomy};
 ghost use Rattle.matching.specs.Matching.{matching};
-ghost use Rattle.triangular.specs.Outcome.{Work, lent, buffers, held_work, holding_work, held_outputs, holding_outputs, held};
+ghost use Rattle.triangular.specs.Outcome.{Work, lent, buffers, held_work, held_outputs, held};
 ghost use Rattle.triangular.specs.Outcome.{handed_out, formed, outcome, ended, Means};
-ghost use Rattle.triangular.specs.Parts.{SameWork};
+ghost use Rattle.triangular.specs.Parts.{SameWork, SameSlices, SameOutputs};
 
-use super::form::{FormOutputs, FormWork, clear_blocks, clear_work, entries_need, lacks_room};
+use super::form::{FormOutputs, FormWork, clear_blocks, clear_work, lacks_room};
 use super::matched::block_matched;
 use matching::SearchWork;
 use matching::diagonal::match_valid;
 use sparse::checks::{check_early, check_repeats};
 use sparse::slices::clear;
-use sparse::{EditedMat, Refusal, SquareMat};
+use sparse::{Refusal, SquareMat};
 
 // The block form of a valid matrix, over stamps that are zero. What the workspace holds afterwards is the caller's to clear.
 pub fn block_valid(
@@ -30,8 +30,7 @@ pub fn block_valid(
         ≡ handed_out mat.now.mat.size (columns mat.now.mat) w (held_outputs outputs.old)
         (matching mat.now.mat.size (columns mat.now.mat)) }
     ensures same_work { SameWork mat.now.mat.size (length mat.now.mat.rows.now) (held_work work.old) (held_work work.new) }
-    ensures same_slices { (work.new ≡ holding_work work.old (held_work work.new))
-        × (outputs.new ≡ holding_outputs outputs.old (held_outputs outputs.new)) }
+    ensures same_slices { SameSlices work.old work.new × SameOutputs outputs.old outputs.new }
 {
     let mut slices = SearchWork {
         visited: &mut *work.visited,
@@ -44,11 +43,7 @@ pub fn block_valid(
         clear_blocks(mat.mat.size, outputs);
         return matched.map(|()| 0);
     };
-    let unedited = EditedMat {
-        mat: mat.mat,
-        edit: None,
-    };
-    let count = block_matched(&unedited, work, outputs);
+    let count = block_matched(&mat.mat.unedited(), work, outputs);
     Ok(count)
 }
 
@@ -62,8 +57,7 @@ pub fn block_tested(
     ensures outputs_after { (w : Work) → ended result (lent w (held_outputs outputs.new))
         ≡ formed mat.now.mat.size mat.now.mat.starts.now mat.now.mat.rows.now w (held_outputs outputs.old) }
     ensures same_work { SameWork mat.now.mat.size (length mat.now.mat.rows.now) (held_work work.old) (held_work work.new) }
-    ensures same_slices { (work.new ≡ holding_work work.old (held_work work.new))
-        × (outputs.new ≡ holding_outputs outputs.old (held_outputs outputs.new)) }
+    ensures same_slices { SameSlices work.old work.new × SameOutputs outputs.old outputs.new }
 {
     clear(work.visited, mat.mat.size);
     check_repeats(mat, work.visited)?;
@@ -81,13 +75,11 @@ pub fn find_block_diag_form(
 ) -> Result<u32, Refusal>
     ensures outcome { ended result (held work.new outputs.new) ≡ outcome size starts.now rows.now (held work.old outputs.old) }
     ensures meaning { Means size starts.now rows.now (held work.old outputs.old) (held work.new outputs.new) result }
-    ensures same_slices { (work.new ≡ holding_work work.old (held_work work.new))
-        × (outputs.new ≡ holding_outputs outputs.old (held_outputs outputs.new)) }
+    ensures same_slices { SameSlices work.old work.new × SameOutputs outputs.old outputs.new }
 {
-    let few = work.backrows.len() < entries_need(rows.len());
-    let short = lacks_room(size, few, work, outputs);
+    let short = lacks_room(size, rows.len(), work, outputs);
     let mat = check_early(size, starts, rows, short)?;
     let answer = block_tested(&mat, work, outputs);
-    clear_work(size, rows.len() as u32, work);
+    clear_work(size, rows.len(), work);
     answer
 }

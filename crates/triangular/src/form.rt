@@ -1,11 +1,11 @@
 // The block triangular form: what it is lent, its needs, and the parts of its entry that look at every buffer.
-ghost use Rattle.std.specs.Prelude.{◌≡◌, ℕ, ◌+◌, ◌≤◌, ltb, length};
+ghost use Rattle.std.specs.Prelude.{◌≡◌, ◌≤◌, length};
 ghost use Rattle.sparse.specs.Buffers.{zeroed};
-ghost use Rattle.sparse.specs.Limits.{max_size};
 ghost use Rattle.sparse.specs.Refusals.{one_short, Roomy};
-ghost use Rattle.triangular.specs.Outcome.{form_need, starts_need, entries_need, work_buffers, output_buffers, buffers};
+ghost use Rattle.triangular.specs.Outcome.{form_need, starts_need, entries_need, work_buffers, buffers};
 ghost use Rattle.triangular.specs.Outcome.{held_work, holding_work, held_outputs, holding_outputs, held, with_blocks, cleared};
 
+use sparse::checks::any_short;
 use sparse::slices::clear;
 
 // The workspace and the stack: by column the stamp of its last visit and its cheap place, the columns as they finish, the row of
@@ -52,45 +52,38 @@ pub fn entries_need(entries: usize) -> usize
     entries
 }
 
-// Whether a slice of the workspace or of the stack is shorter than its need; the caller has tested the reversed graph's rows.
-fn lacks_work(size: u32, few: bool, work: &FormWork) -> bool
-    ensures { (entries : ℕ) → few ≡ ltb (length work.now.backrows.now) (entries_need entries)
-        → result ≡ one_short (work_buffers size entries (held_work work.now)) }
+// Whether a buffer is shorter than its need, with room asked for so many entries.
+pub fn lacks_room(size: u32, entries: usize, work: &FormWork, outputs: &FormOutputs) -> bool
+    ensures { result ≡ one_short (buffers size entries (held work.now outputs.now)) }
 {
     let need = form_need(size) as usize;
-    (work.visited.len() < need)
-        | (work.cheap.len() < need)
-        | (work.finished.len() < need)
-        | (work.col2row.len() < need)
-        | (work.backstarts.len() < starts_need(size))
-        | few
-        | (work.scol.len() < need)
-        | (work.sat.len() < need)
+    any_short(&[
+        (work.visited.len(), need),
+        (work.cheap.len(), need),
+        (work.finished.len(), need),
+        (work.col2row.len(), need),
+        (work.backstarts.len(), starts_need(size)),
+        (work.backrows.len(), entries_need(entries)),
+        (work.scol.len(), need),
+        (work.sat.len(), need),
+        (outputs.row2col.len(), need),
+        (outputs.hall.len(), need),
+        (outputs.blockcols.len(), need),
+        (outputs.blockstarts.len(), starts_need(size)),
+    ])
 }
 
-// Whether an output is shorter than its need.
-fn lacks_outputs(size: u32, outputs: &FormOutputs) -> bool
-    ensures { result ≡ one_short (output_buffers size (held_outputs outputs.now)) }
+// The first k numbers become zero, for a count of starts or of entries, which may be more than a number of columns.
+fn clear_front(s: &mut [u32], k: usize)
+    requires { k ≤ length s.old }
+    ensures { s.new ≡ zeroed k s.old }
 {
-    let need = form_need(size) as usize;
-    (outputs.row2col.len() < need)
-        | (outputs.hall.len() < need)
-        | (outputs.blockcols.len() < need)
-        | (outputs.blockstarts.len() < starts_need(size))
-}
-
-// Whether a buffer is shorter than its need; the caller has tested the reversed graph's rows.
-pub fn lacks_room(size: u32, few: bool, work: &FormWork, outputs: &FormOutputs) -> bool
-    ensures { (entries : ℕ) → few ≡ ltb (length work.now.backrows.now) (entries_need entries)
-        → result ≡ one_short (buffers size entries (held work.now outputs.now)) }
-{
-    lacks_work(size, few, work) | lacks_outputs(size, outputs)
+    s[..k].fill(0);
 }
 
 // The workspace and the stack become zero over their needs.
-pub fn clear_work(size: u32, entries: u32, work: &mut FormWork)
-    requires size_le_max_size { size ≤ max_size }
-    requires roomy { Roomy (work_buffers size entries (held_work work.old)) }
+pub fn clear_work(size: u32, entries: usize, work: &mut FormWork)
+    requires { Roomy (work_buffers size entries (held_work work.old)) }
     ensures { work.new ≡ holding_work work.old (cleared size entries (held_work work.old)) }
 {
     let need = form_need(size);
@@ -98,19 +91,18 @@ pub fn clear_work(size: u32, entries: u32, work: &mut FormWork)
     clear(work.cheap, need);
     clear(work.finished, need);
     clear(work.col2row, need);
-    clear(work.backstarts, starts_need(size) as u32);
-    clear(work.backrows, entries_need(entries as usize) as u32);
+    clear_front(work.backstarts, starts_need(size));
+    clear_front(work.backrows, entries_need(entries));
     clear(work.scol, need);
     clear(work.sat, need);
 }
 
 // The blocks' columns and starts become zero over their needs.
 pub fn clear_blocks(size: u32, outputs: &mut FormOutputs)
-    requires { (size ≤ max_size) × (form_need size ≤ length outputs.old.blockcols.now)
-        × (starts_need size ≤ length outputs.old.blockstarts.now) }
+    requires { (form_need size ≤ length outputs.old.blockcols.now) × (starts_need size ≤ length outputs.old.blockstarts.now) }
     ensures { outputs.new ≡ holding_outputs outputs.old (with_blocks (held_outputs outputs.old)
         (zeroed (form_need size) outputs.old.blockcols.now) (zeroed (starts_need size) outputs.old.blockstarts.now)) }
 {
     clear(outputs.blockcols, form_need(size));
-    clear(outputs.blockstarts, starts_need(size) as u32);
+    clear_front(outputs.blockstarts, starts_need(size));
 }

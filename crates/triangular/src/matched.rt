@@ -9,11 +9,12 @@ ghost use Rattle.blocks.specs.Walk.{last_first, SameFrom};
 ghost use Rattle.blocks.specs.Reverse.{entries, Reversible};
 ghost use Rattle.blocks.specs.Cut.{second_pass, PassReady, CutReady, HoldsBlocks};
 ghost use Rattle.triangular.specs.Outcome.{form_need, starts_need, work_buffers};
-ghost use Rattle.triangular.specs.Outcome.{held_work, holding_work, held_outputs, holding_outputs, with_blocks};
-ghost use Rattle.triangular.specs.Parts.{SameWork};
+ghost use Rattle.triangular.specs.Outcome.{held_work, held_outputs, holding_outputs, with_blocks};
+ghost use Rattle.triangular.specs.Parts.{SameWork, SameSlices};
 
 use super::form::{FormOutputs, FormWork};
 use blocks::cut::{cut_blocks, finish_columns};
+use blocks::matched::MatchedMat;
 use blocks::reverse::reverse_graph;
 use blocks::walk::WalkWork;
 use sparse::slices::{clear, get, invert};
@@ -64,7 +65,7 @@ pub fn block_matched(mat: &EditedMat, work: &mut FormWork, outputs: &mut FormOut
         outputs.new.blockcols.now outputs.new.blockstarts.now) }
     ensures same_work { SameWork mat.now.mat.size (entries mat.now.mat.size (edited_columns mat.now)) (held_work work.old)
         (held_work work.new) }
-    ensures same_slices { work.new ≡ holding_work work.old (held_work work.new) }
+    ensures same_slices { SameSlices work.old work.new }
 {
     let size = mat.mat.size;
     clear(work.visited, size);
@@ -83,7 +84,8 @@ pub fn block_matched(mat: &EditedMat, work: &mut FormWork, outputs: &mut FormOut
     let backstarts = &mut *work.backstarts;
     let backrows = &mut *work.backrows;
     invert::<OriginalRow, Column>(size, row2col, col2row);
-    reverse_graph(mat, row2col, col2row, backstarts, backrows);
+    let matched = MatchedMat { mat: *mat, row2col };
+    reverse_graph(&matched, col2row, backstarts, backrows);
     // Nothing asks for the columns that this pass finishes: they go where the matching's cheap places were.
     let mut second = WalkWork {
         visited: &mut *work.visited,

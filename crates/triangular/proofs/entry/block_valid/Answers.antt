@@ -5,8 +5,8 @@ use Rattle.sparse.specs.Columns.{columns}
 use Rattle.matching.specs.Matching.{matching}
 use Rattle.matching.specs.Outcome as m
 use Rattle.blocks.proofs.Entries.{entries_plain}
-use Rattle.triangular.specs.Outcome.{held_work, held_outputs, held, ended, lent, passed_on, work_buffers, output_buffers}
-use Rattle.triangular.proofs.Room.{work_kept, roomy_split}
+use Rattle.triangular.specs.Outcome.{held_work, held_outputs, held, ended, lent, passed_on}
+use Rattle.triangular.proofs.Room.{lent_room, kept_room}
 use Rattle.triangular.proofs.Outcome.{handed_on, hand_passed}
 use Rattle.triangular.proofs.Valid.{given_square, handed_reversible, valid_accepted}
 use Rattle.triangular.proofs.Work.{same_then, matching_same}
@@ -28,22 +28,20 @@ block_matched-count-requires-clause-reversible c =
     let work = c.args.work.now in
     let o = held_outputs c.args.outputs.now in
     let l = m.lent work.visited.now work.cheap.now work.scol.now work.sat.now o.row2col o.hall in
-    let shaped = c.args.mat.now.mat.shaped in (
+    let shaped = c.args.mat.now.mat.shaped in rw (c.unedited.ensures.0, c.unedited.ensures.1) (
       handed_reversible (given_square c.args.mat.now (held work c.args.outputs.now) c.requires.once c.requires.roomy)
           (handed_on _ l o _ _ _ _ refl refl (c.match_valid-matched.ensures.hall_after l refl refl) c.in-Ok.is)
-          (omega (arith, c.requires.roomy.1.1.1.1.1.1.1.1.0, c.match_valid-matched.auto)),
+          (omega (arith, (lent_room _ _ (held work c.args.outputs.now) c.requires.roomy).1, c.match_valid-matched.auto)),
       omega (arith, entries_plain shaped, shaped.few),
     )
 
 pub block_matched-count-requires-clause-roomy : goal.block_matched-count-requires-clause-roomy
 block_matched-count-requires-clause-roomy c =
-    let size = c.args.mat.now.mat.size in
     let entries = length c.args.mat.now.mat.rows.now in
     let w = held_work c.args.work.now in
-    let room = roomy_split (work_buffers size entries w) (output_buffers size (held_outputs c.args.outputs.now)) c.requires.roomy in
     let same = c.match_valid-matched.ensures.same_work in
-    rw (entries_plain c.args.mat.now.mat.shaped) (work_kept size entries w _
-    (matching_same {k = entries} w.finished w.col2row w.backstarts w.backrows same (search (rules, same.slices))) room.0)
+    rw (c.unedited.ensures.0, c.unedited.ensures.1, entries_plain c.args.mat.now.mat.shaped) (kept_room c.args.mat.now.mat.size entries (held c.args.work.now c.args.outputs.now)
+    (matching_same {k = entries} w.finished w.col2row w.backstarts w.backrows same (search (rules, same.slices))) c.requires.roomy)
 
 pub returns-clause-outputs_after : goal.returns-clause-outputs_after
 returns-clause-outputs_after c =
@@ -54,11 +52,12 @@ returns-clause-outputs_after c =
     ∙ valid_accepted _ _ _ (held work c.args.outputs.now) v _ _ _ _ _
     (given_square c.args.mat.now (held work c.args.outputs.now) c.requires.once c.requires.roomy)
     (handed_on _ l o _ _ _ _ refl refl (c.match_valid-matched.ensures.hall_after l refl refl) c.in-Ok.is)
-    c.block_matched-count.ensures.holds_blocks
+    (rw (c.unedited.ensures.0, c.unedited.ensures.1) at c.block_matched-count.ensures.holds_blocks)
 
 pub returns-clause-same_work : goal.returns-clause-same_work
 returns-clause-same_work c =
     let w = held_work c.args.work.now in
     let same = c.match_valid-matched.ensures.same_work in
-    let matched = rw (entries_plain c.args.mat.now.mat.shaped) at c.block_matched-count.ensures.same_work in
+    let plain = c.unedited.ensures in
+    let matched = rw (plain.0, plain.1, entries_plain c.args.mat.now.mat.shaped) at c.block_matched-count.ensures.same_work in
     same_then (matching_same w.finished w.col2row w.backstarts w.backrows same (search (rules, same.slices))) matched

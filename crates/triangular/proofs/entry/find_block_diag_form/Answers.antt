@@ -1,10 +1,10 @@
 -- `find_block_diag_form` meets its contract: a refusal of the early checks, or what is formed with the workspace cleared, is the outcome.
-use Rattle.std.proofs.Common.{rules, Err, sym, ap, refl, ◌∙◌, length}
+use Rattle.std.proofs.Common.{rules, Err, sym, ap, ◌∙◌, length}
 use Rattle.std.proofs.lemmas.Result.{err_from_is_err_and}
 use Rattle.sparse.specs.Refusals.{checked}
 use Rattle.sparse.proofs.Early.{early_passed}
-use Rattle.triangular.specs.Outcome.{BlockAnswer, held_work, held_outputs, held, ended, work_buffers, output_buffers}
-use Rattle.triangular.proofs.Room.{work_kept, roomy_split}
+use Rattle.triangular.specs.Outcome.{BlockAnswer, held_work, held_outputs, held, ended}
+use Rattle.triangular.proofs.Room.{kept_room}
 use Rattle.triangular.proofs.Outcome.{early_outcome, outcome_means}
 use Rattle.triangular.proofs.Valid.{tested_exit}
 use Rattle.triangular.proofs.Work.{same_cleared}
@@ -13,7 +13,7 @@ use Rattle.triangular.proofs.entry.find_block_diag_form.Goals as goal
 pub returns-in_err-mat : goal.returns-in_err-mat
 returns-in_err-mat c =
     let l = held c.args.work.now c.args.outputs.now in
-    let found = c.check_early.ensures.value _ (c.lacks_room-short.ensures (length c.args.rows.now) (rw c.entries_need.ensures refl)) in
+    let found = c.check_early.ensures.value _ c.lacks_room-short.ensures in
     let p = err_from_is_err_and c.from_residual.result c.from_residual.ensures.1 in
     let e = ap (λ (a : BlockAnswer). ended a l) (p.1 ∙ ap (λ r. Err r) p.2)
     ∙ early_outcome _ _ _ l _ (sym found ∙ ap checked c.in_err-mat.was) in
@@ -21,24 +21,20 @@ returns-in_err-mat c =
 
 pub block_tested-answer-requires : goal.block_tested-answer-requires
 block_tested-answer-requires c =
-    let found = c.check_early.ensures.value _ (c.lacks_room-short.ensures (length c.args.rows.now) (rw c.entries_need.ensures refl)) in
+    let found = c.check_early.ensures.value _ c.lacks_room-short.ensures in
     let mat = c.in_ok-mat.ensures in
     rw (mat.size, mat.rows) (early_passed _ _ _ _ (sym found ∙ ap checked c.in_ok-mat.was)).room
 
-pub clear_work-requires-clause-roomy : goal.clear_work-requires-clause-roomy
-clear_work-requires-clause-roomy c =
-    let found = c.check_early.ensures.value _ (c.lacks_room-short.ensures (length c.args.rows.now) (rw c.entries_need.ensures refl)) in
-    let room = (early_passed _ _ _ _ (sym found ∙ ap checked c.in_ok-mat.was)).room in
-    let size = c.args.size in
-    let entries = length c.args.rows.now in
-    let before = held_work c.args.work.now in
-    work_kept size entries before (held_work c.block_tested-answer.new.work) c.block_tested-answer.ensures.same_work
-    (roomy_split (work_buffers size entries before) (output_buffers size (held_outputs c.args.outputs.now)) room).0
+pub clear_work-requires : goal.clear_work-requires
+clear_work-requires c =
+    let found = c.check_early.ensures.value _ c.lacks_room-short.ensures in
+    kept_room c.args.size (length c.args.rows.now) (held c.args.work.now c.args.outputs.now) c.block_tested-answer.ensures.same_work
+    (early_passed _ _ _ _ (sym found ∙ ap checked c.in_ok-mat.was)).room
 
 pub returns : goal.returns
 returns c =
     let l = held c.args.work.now c.args.outputs.now in
-    let found = c.check_early.ensures.value _ (c.lacks_room-short.ensures (length c.args.rows.now) (rw c.entries_need.ensures refl)) in
+    let found = c.check_early.ensures.value _ c.lacks_room-short.ensures in
     let mat = c.in_ok-mat.ensures in
     let tested = c.block_tested-answer in
     let same = rw (mat.size, mat.rows) at tested.ensures.same_work in

@@ -1,11 +1,6 @@
--- `lacks_room` meets its contract: the two tests joined are the test of the buffers.
-use Rattle.std.proofs.Common.{sym}
-use Rattle.triangular.specs.Outcome.{held_work, held_outputs, work_buffers, output_buffers}
-use Rattle.triangular.proofs.Room.{short_append}
+-- `lacks_room` meets its contract: the list that is tested is the list of the buffers.
 use Rattle.triangular.proofs.form.lacks_room.Goals as goal
 
 pub returns : goal.returns
 returns c =
-    λ entries e. rw (c.lacks_work.ensures entries e, c.lacks_outputs.ensures)
-    (sym (short_append (work_buffers c.args.size entries (held_work c.args.work.now))
-    (output_buffers c.args.size (held_outputs c.args.outputs.now))))
+    rw (c.form_need-need.ensures, c.starts_need.ensures, c.starts_need-2.ensures, c.entries_need.ensures) at c.any_short.ensures
