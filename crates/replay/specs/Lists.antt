@@ -1,5 +1,10 @@
 -- Parts of lists, and what a lent buffer is to hold.
-use Rattle.std.specs.Prelude.{ℕ, ◌-◌, List, [], Bool, cond, not, ltb, eqb, length, get_or, take, drop}
+use Rattle.std.specs.Prelude.{ℕ, ◌≤◌, ◌-◌, List, [], Bool, cond, not, ltb, eqb, length, get_or, take, drop}
+use Rattle.replay.specs.declared.lists.Numbers.{Numbers}
+
+-- of the stored numbers no more are left than before
+abbrev pub Fewer : Numbers → Numbers → Type 0
+Fewer before after = length after.rest.now ≤ length before.rest.now
 
 -- so many numbers from a place on; none where the list ends before
 unfoldable pub part_of : List ℕ → ℕ → ℕ → List ℕ

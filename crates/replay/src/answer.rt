@@ -1,5 +1,6 @@
 // The answer of a call as it is stored, and what it says of the lent buffers.
-ghost use Rattle.std.specs.Prelude.{◌≤◌, length};
+ghost use Rattle.std.specs.Prelude.{◌≤◌};
+ghost use Rattle.replay.specs.Lists.{Fewer};
 
 use super::lists::{Numbers, zeros};
 use sparse::Refusal;
@@ -38,7 +39,7 @@ pub struct Answer {
 
 impl Answer {
     pub fn read<'a>(numbers: &mut Numbers<'a>) -> Option<Answer>
-        ensures { length numbers.new.rest.now ≤ length numbers.old.rest.now }
+        ensures { Fewer numbers.old numbers.new }
     {
         let number = numbers.number()?;
         let place = numbers.number()?;

@@ -1,9 +1,9 @@
 // Cases of kind 4, `edit::edit_column`: behind the rows stand the edited column, how many rows take the place of its own, these rows
 // and the old matching. What follows is as in kind 3. Of the refusals with number 1, the one of an edit that makes a matrix too large
 // clears the workspace, and is not stored: its line would have a million rows. So `Answer::work` holds of every stored edit.
-ghost use Rattle.std.specs.Prelude.{◌≤◌, length};
 
 use super::answer::Outcome;
+use super::case::Case;
 use super::form::Form;
 use super::lent::Lent;
 use super::lists::{Numbers, holding};
@@ -23,10 +23,17 @@ pub struct Edit<'a> {
 }
 
 impl<'a> Edit<'a> {
-    pub fn read(numbers: &mut Numbers<'a>) -> Option<Edit<'a>>
-        ensures { length numbers.new.rest.now ≤ length numbers.old.rest.now }
-    {
-        let pattern = Pattern::read(numbers)?;
+    // What row2col holds afterwards: the new matching, or without one the old.
+    fn left(&self) -> &'a [u32] {
+        match self.form.matching.answer.outcome() {
+            Outcome::Accepted => self.form.matching.row2col,
+            _ => self.old_matching,
+        }
+    }
+}
+
+impl<'a> Case<'a> for Edit<'a> {
+    fn read_behind(pattern: Pattern<'a>, numbers: &mut Numbers<'a>) -> Option<Edit<'a>> {
         let column = Column(numbers.number()?);
         let count = numbers.number_within(MAX_REPLACEMENT)?;
         let replacement = numbers.list(count as usize)?;
@@ -40,16 +47,8 @@ impl<'a> Edit<'a> {
         })
     }
 
-    // What row2col holds afterwards: the new matching, or without one the old.
-    fn left(&self) -> &'a [u32] {
-        match self.form.matching.answer.outcome() {
-            Outcome::Accepted => self.form.matching.row2col,
-            _ => self.old_matching,
-        }
-    }
-
     // Calls the function on buffers that hold junk, but for the old matching.
-    pub fn agrees(&self) -> bool {
+    fn agrees(&self) -> bool {
         let pattern = &self.form.matching.pattern;
         let mut lent = Lent::junk();
         lent.row2col = holding(self.old_matching);

@@ -1,7 +1,7 @@
 // Reading lists of numbers, and comparing lent buffers with what they are to hold.
 ghost use Rattle.std.specs.Prelude.{◌≡◌, ℕ, ◌+◌, ◌≤◌, ◌<◌, ◌↔◌, [], ◌∷◌, ◌++◌, length, get_or, replicate, IsNone, IfSome};
 ghost use Rattle.graph.specs.Counting.{some};
-ghost use Rattle.replay.specs.Lists.{part_of, differs_at, junk};
+ghost use Rattle.replay.specs.Lists.{Fewer, part_of, differs_at, junk};
 
 use std::array;
 
@@ -27,7 +27,7 @@ impl<'a> Numbers<'a> {
     pub fn number(&mut self) -> Option<u32>
         ensures value { IfSome result (λ n. self.old.rest.now ≡ n ∷ self.new.rest.now) }
         ensures end { IsNone result ↔ (self.old.rest.now ≡ []) }
-        ensures fewer { length self.new.rest.now ≤ length self.old.rest.now }
+        ensures fewer { Fewer self.old self.new }
     {
         let (first, rest) = self.rest.split_first()?;
         self.rest = rest;
@@ -37,7 +37,7 @@ impl<'a> Numbers<'a> {
     // The next number, or none where it is over a limit or missing.
     pub fn number_within(&mut self, limit: u32) -> Option<u32>
         ensures value { IfSome result (λ n. n ≤ limit) }
-        ensures fewer { length self.new.rest.now ≤ length self.old.rest.now }
+        ensures fewer { Fewer self.old self.new }
     {
         self.number().filter(|n| *n <= limit)
     }
@@ -48,7 +48,7 @@ impl<'a> Numbers<'a> {
         ensures rest { IfSome result (λ list. self.old.rest.now ≡ list.now ++ self.new.rest.now) }
         ensures len { IfSome result (λ list. length list.now ≡ count) }
         ensures end { IsNone result ↔ (length self.old.rest.now < count) }
-        ensures fewer { length self.new.rest.now ≤ length self.old.rest.now }
+        ensures fewer { Fewer self.old self.new }
     {
         let (list, rest) = self.rest.split_at_checked(count)?;
         self.rest = rest;

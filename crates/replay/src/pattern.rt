@@ -1,5 +1,6 @@
 // What a case of every kind begins with: size, entries, the starts, the rows.
 ghost use Rattle.std.specs.Prelude.{◌≡◌, ◌≤◌, length};
+ghost use Rattle.replay.specs.Lists.{Fewer};
 
 use super::lists::Numbers;
 
@@ -19,7 +20,7 @@ pub struct Pattern<'a> {
 
 impl<'a> Pattern<'a> {
     pub fn read(numbers: &mut Numbers<'a>) -> Option<Pattern<'a>>
-        ensures { length numbers.new.rest.now ≤ length numbers.old.rest.now }
+        ensures { Fewer numbers.old numbers.new }
     {
         let size = numbers.number_within(MAX_SIZE)?;
         let entries = numbers.number_within(MAX_ENTRIES)?;
