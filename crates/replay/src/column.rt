@@ -1,7 +1,6 @@
 // Cases of kind 4, `edit::edit_column`: behind the rows stand the edited column, how many rows take the place of its own, these rows
 // and the old matching. What follows is as in kind 3. Of the refusals with number 1, the one of an edit that makes a matrix too large
 // clears the workspace, and is not stored: its line would have a million rows. So `Answer::work` holds of every stored edit.
-
 use super::answer::Outcome;
 use super::case::Case;
 use super::form::Form;

@@ -1,6 +1,5 @@
 // Cases of kind 2, `matching::find_diag_matching`: the list is the column of each row where the answer is 0, and the Hall marks
 // where it is 9. Other answers have none.
-
 use super::answer::{Answer, Outcome};
 use super::case::Case;
 use super::lists::{JUNK, LENT, Numbers, any_differs, differs, zeros};

@@ -82,12 +82,10 @@ pub fn holding(list: &[u32]) -> [u32; LENT]
 pub fn differs(buffer: &[u32], list: &[u32]) -> bool
     ensures { result ≡ some (differs_at buffer.now list.now) (length buffer.now) }
 {
-    for (i, number) in buffer.iter().enumerate() {
-        if *number != number_or_junk(list, i) {
-            return true;
-        }
-    }
-    false
+    buffer
+        .iter()
+        .enumerate()
+        .any(|(i, number)| *number != number_or_junk(list, i))
 }
 
 // The same of several buffers that are to hold one list.

@@ -1,5 +1,4 @@
 // Cases of kind 1, `ordering::order_simple`: the lists, where the answer is 0, are the columns by place and the places by column.
-
 use super::answer::{Answer, Outcome};
 use super::case::Case;
 use super::lists::{JUNK, LENT, Numbers, any_differs, differs};
