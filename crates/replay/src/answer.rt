@@ -2,7 +2,7 @@
 ghost use Rattle.std.specs.Prelude.{◌≤◌};
 ghost use Rattle.replay.specs.Lists.{Fewer};
 
-use super::lists::{Numbers, zeros};
+use super::lists::{LENT_ENTRIES, Numbers, zeros};
 use sparse::Refusal;
 use sparse::refusal::number_and_place;
 
@@ -57,7 +57,7 @@ impl Answer {
 
     // What a workspace slice with this need holds afterwards.
     pub fn work(self, need: usize) -> &'static [u32]
-        requires { need ≤ 4168 }
+        requires { need ≤ LENT_ENTRIES }
     {
         match self.outcome() {
             Outcome::Untouched => &[],

@@ -6,12 +6,12 @@ use super::case::Case;
 use super::form::Form;
 use super::lent::Lent;
 use super::lists::{Numbers, holding};
-use super::pattern::Pattern;
+use super::pattern::{MAX_SIZE, Pattern};
 use sparse::Column;
 use triangular::{FormOutputs, FormWork};
 
-// The program's own limit.
-const MAX_REPLACEMENT: u32 = 64;
+// The program's own limit: a row for each there is.
+const MAX_REPLACEMENT: u32 = MAX_SIZE;
 
 #[derive(Drop)]
 pub struct Edit<'a> {

@@ -8,7 +8,7 @@ use super::case::Case;
 use super::diagonal::Diagonal;
 use super::lent::Lent;
 use super::lists::{Numbers, any_differs, differs, zeros};
-use super::pattern::Pattern;
+use super::pattern::{MAX_ENTRIES, MAX_SIZE, Pattern};
 use sparse::Refusal;
 use triangular::{FormOutputs, FormWork};
 
@@ -52,7 +52,7 @@ impl<'a> Form<'a> {
         back: usize,
         row2col: &[u32],
     ) -> bool
-        requires { back ≤ 64 + 4096 }
+        requires { back ≤ MAX_SIZE + MAX_ENTRIES }
     {
         let stored = self.matching.answer;
         let size = self.matching.pattern.columns();

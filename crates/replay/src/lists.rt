@@ -1,18 +1,19 @@
 // Reading lists of numbers, and comparing lent buffers with what they are to hold.
 ghost use Rattle.std.specs.Prelude.{◌≡◌, ℕ, ◌+◌, ◌≤◌, ◌<◌, ◌↔◌, [], ◌∷◌, ◌++◌, length, get_or, replicate, IsNone, IfSome};
 ghost use Rattle.graph.specs.Counting.{some};
-ghost use Rattle.replay.specs.Lists.{Fewer, part_of, differs_at, junk};
+ghost use Rattle.replay.specs.Lists.{Fewer, part_of, differs_at};
 
+use super::pattern::{MAX_ENTRIES, MAX_SIZE};
 use std::array;
 
 // What stands in a lent buffer before a call: nothing that a call stores.
 pub const JUNK: u32 = 3735928559;
 
 // Of each lent buffer something lies beyond the largest size.
-pub const LENT: usize = 72;
+pub const LENT: usize = MAX_SIZE as usize + 8;
 
 // The same for a buffer that goes by entries: something lies beyond the most of them and the rows of one more column.
-pub const LENT_ENTRIES: usize = 4168;
+pub const LENT_ENTRIES: usize = MAX_ENTRIES as usize + LENT;
 
 static ZEROS: [u32; LENT_ENTRIES] = [0; LENT_ENTRIES];
 
@@ -58,14 +59,14 @@ impl<'a> Numbers<'a> {
 
 // The number that a list has at a place, or junk past its end.
 fn number_or_junk(list: &[u32], i: usize) -> u32
-    ensures { result ≡ get_or list.now i junk }
+    ensures { result ≡ get_or list.now i JUNK }
 {
     list.get(i).copied().unwrap_or(JUNK)
 }
 
 // What stands where a call has cleared so many numbers.
 pub fn zeros(count: usize) -> &'static [u32]
-    requires { count ≤ 4168 }
+    requires { count ≤ LENT_ENTRIES }
     ensures { result.now ≡ replicate count 0 }
 {
     &ZEROS[..count]
@@ -73,7 +74,7 @@ pub fn zeros(count: usize) -> &'static [u32]
 
 // A buffer with a list at its start and junk after that.
 pub fn holding(list: &[u32]) -> [u32; LENT]
-    ensures { (i : ℕ) → i < 72 → get_or result i 0 ≡ get_or list.now i junk }
+    ensures { (i : ℕ) → i < LENT → get_or result i 0 ≡ get_or list.now i JUNK }
 {
     array::from_fn(|i| number_or_junk(list, i))
 }

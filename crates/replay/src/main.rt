@@ -31,7 +31,7 @@ use text::{Cut, read_numbers};
 const MAX_TEXT: usize = 163840;
 
 // One byte more, to tell the longest text from a longer one.
-const TEXT_ROOM: usize = 163841;
+const TEXT_ROOM: usize = MAX_TEXT + 1;
 
 // A text with more numbers is malformed behind them.
 const NUMBERS_ROOM: usize = 65537;

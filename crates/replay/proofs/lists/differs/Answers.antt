@@ -5,7 +5,7 @@ use Rattle.std.proofs.lemmas.Iterator.Consumers.{YieldsList-from_enumerate}
 use Rattle.std.proofs.lemmas.Iterator.Search.{any_from_yields_List}
 use Rattle.std.specs.List.{list_any, enumerate_from}
 use Rattle.graph.specs.Counting.{some}
-use Rattle.replay.specs.Lists.{junk}
+use Rattle.replay.specs.declared.lists.TheConstants.{JUNK}
 use Rattle.replay.proofs.lists.differs.Goals as goal
 
 or_other_first : (a b c : Bool) → a || (b || c) ≡ b || (a || c)
@@ -33,7 +33,7 @@ some_place q n (x ∷ xs) =
 pub returns : goal.returns
 returns c =
     let xs = c.args.buffer.now in
-    let other : ℕ × ℕ → Bool = λ p. not (eqb p.1 (get_or c.args.list.now p.0 junk)) in
+    let other : ℕ × ℕ → Bool = λ p. not (eqb p.1 (get_or c.args.list.now p.0 JUNK)) in
     let from_zero : (k : ℕ) → 0 + k ≡ k = λ k. omega arith in
     any_from_yields_List other _ _ _ c.any.ensures.ran (YieldsList-from_enumerate {s = c.enumerate.result} (YieldsList-from_slice xs (ap (λ s. s.rest.now) c.enumerate.ensures.source ∙ c.iter.ensures.rest)) c.enumerate.ensures.count)
     (λ x b q k. search (rules, tests))
