@@ -26,7 +26,7 @@ use lists::Numbers;
 use order::Order;
 use std::io;
 use std::io::{Input, Print, Read};
-use text::{Cut, read_numbers};
+use text::read_numbers;
 
 const MAX_TEXT: usize = 163840;
 
@@ -99,6 +99,6 @@ fn main(rt: HostRuntime) -> io::Result<()> {
     }
     let mut numbers = [0u32; NUMBERS_ROOM];
     let found = read_numbers(&text[..length], &mut numbers);
-    let (Ok(count) | Err(Cut { count })) = found;
+    let count = found.unwrap_or_else(|cut| cut.count);
     replay_all(&rt, &numbers[..count], found.is_ok())
 }
