@@ -4,11 +4,10 @@
 use super::answer::Outcome;
 use super::case::Case;
 use super::form::Form;
-use super::lent::Lent;
+use super::lent::{Lent, lend};
 use super::lists::{Numbers, holding};
 use super::pattern::{MAX_SIZE, Pattern};
 use sparse::Column;
-use triangular::{FormOutputs, FormWork};
 
 // The program's own limit: a row for each there is.
 const MAX_REPLACEMENT: u32 = MAX_SIZE;
@@ -51,22 +50,7 @@ impl<'a> Case<'a> for Edit<'a> {
         let pattern = &self.form.matching.pattern;
         let mut lent = Lent::junk();
         lent.row2col = holding(self.old_matching);
-        let mut work = FormWork {
-            visited: &mut lent.visited,
-            cheap: &mut lent.cheap,
-            finished: &mut lent.finished,
-            col2row: &mut lent.col2row,
-            backstarts: &mut lent.backstarts,
-            backrows: &mut lent.backrows,
-            scol: &mut lent.scol,
-            sat: &mut lent.sat,
-        };
-        let mut outputs = FormOutputs {
-            row2col: &mut lent.row2col,
-            hall: &mut lent.hall,
-            blockcols: &mut lent.blockcols,
-            blockstarts: &mut lent.blockstarts,
-        };
+        let (mut work, mut outputs) = lend!(lent);
         let answer = edit::edit_column(
             pattern.size,
             pattern.starts,

@@ -6,11 +6,10 @@ ghost use Rattle.replay.specs.Lists.{Fewer};
 use super::answer::{Outcome, with_count};
 use super::case::Case;
 use super::diagonal::Diagonal;
-use super::lent::Lent;
+use super::lent::{Lent, lend};
 use super::lists::{Numbers, any_differs, differs, zeros};
 use super::pattern::{MAX_ENTRIES, MAX_SIZE, Pattern};
 use sparse::Refusal;
-use triangular::{FormOutputs, FormWork};
 
 // How many blocks there are, and what blockcols and blockstarts hold afterwards.
 #[derive(Clone, Copy)]
@@ -21,10 +20,10 @@ pub struct Blocks<'a> {
 }
 
 impl<'a> Blocks<'a> {
-    fn read(size: u32, numbers: &mut Numbers<'a>) -> Option<Blocks<'a>>
+    fn read(pattern: &Pattern<'a>, numbers: &mut Numbers<'a>) -> Option<Blocks<'a>>
         ensures { Fewer numbers.old numbers.new }
     {
-        let size = size as usize;
+        let size = pattern.columns();
         let count = numbers.number()?;
         let columns = numbers.list(size)?;
         let starts = numbers.list(size + 1)?;
@@ -85,7 +84,7 @@ impl<'a> Case<'a> for Form<'a> {
         let matching = Diagonal::read_behind(pattern, numbers)?;
         let size = matching.pattern.columns();
         let blocks = match matching.answer.outcome() {
-            Outcome::Accepted => Blocks::read(matching.pattern.size, numbers)?,
+            Outcome::Accepted => Blocks::read(&matching.pattern, numbers)?,
             Outcome::Unmatched => Blocks {
                 count: 0,
                 columns: zeros(size),
@@ -104,22 +103,7 @@ impl<'a> Case<'a> for Form<'a> {
     fn agrees(&self) -> bool {
         let pattern = &self.matching.pattern;
         let mut lent = Lent::junk();
-        let mut work = FormWork {
-            visited: &mut lent.visited,
-            cheap: &mut lent.cheap,
-            finished: &mut lent.finished,
-            col2row: &mut lent.col2row,
-            backstarts: &mut lent.backstarts,
-            backrows: &mut lent.backrows,
-            scol: &mut lent.scol,
-            sat: &mut lent.sat,
-        };
-        let mut outputs = FormOutputs {
-            row2col: &mut lent.row2col,
-            hall: &mut lent.hall,
-            blockcols: &mut lent.blockcols,
-            blockstarts: &mut lent.blockstarts,
-        };
+        let (mut work, mut outputs) = lend!(lent);
         let answer = triangular::find_block_diag_form(
             pattern.size,
             pattern.starts,
