@@ -1,8 +1,9 @@
 -- The test of the lent buffers, one after the other, and what it says that they pass.
-use Rattle.std.proofs.Common.{◌≤◌, ◌≡◌, refl, List, [], ◌∷◌, Bool, true, false, ◌||◌, ltb-false, ltb}
+use Rattle.std.proofs.Common.{ℕ, map, ◌≤◌, ◌≡◌, refl, ap, List, [], ◌∷◌, Bool, true, false, ◌||◌, ltb-false, ltb}
 use Rattle.graph.proofs.Bools.{or_left, or_right}
 use Rattle.sparse.specs.declared.refusal.Refusal.TheVariants.{NoRoom}
-use Rattle.sparse.specs.Refusals.{passed, Buffer, one_short, no_room, refused_if}
+use Rattle.std.specs.List.{list_any}
+use Rattle.sparse.specs.Refusals.{passed, as_buffer, Buffer, one_short, no_room, refused_if}
 use Rattle.sparse.proofs.Refusals.{if_passed}
 
 -- the test goes through the buffers
@@ -28,3 +29,9 @@ room_head b bs e = ltb-false _ _ (or_left (ltb b.len b.need) (one_short bs) (if_
 pub room_tail : (b : Buffer) (bs : List Buffer) → no_room (b ∷ bs) ≡ passed → no_room bs ≡ passed
 unfolding no_room one_short refused_if
 room_tail b bs e = rw (or_right (ltb b.len b.need) (one_short bs) (if_passed NoRoom _ e))
+
+-- a list of lengths and needs, tested one by one, is the test of the buffers
+pub short_pairs : (xs : List (ℕ × ℕ)) → list_any (λ b. ltb b.0 b.1) xs ≡ one_short (map as_buffer xs)
+unfolding one_short
+short_pairs [] = refl
+short_pairs (x ∷ xs) = ap (λ (t : Bool). ltb x.0 x.1 || t) (short_pairs xs)

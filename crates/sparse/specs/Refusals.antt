@@ -114,6 +114,10 @@ pub record Buffer : Type 0 where
 abbrev pub buffer : ℕ → ℕ → Buffer
 buffer len need = record { len = len; need = need }
 
+-- a length and a need as a buffer
+abbrev pub as_buffer : ℕ × ℕ → Buffer
+as_buffer b = buffer b.0 b.1
+
 -- whether one of the buffers is shorter than its need
 unfoldable pub one_short : List Buffer → Bool
 one_short [] = false

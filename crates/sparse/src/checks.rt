@@ -1,9 +1,9 @@
 // The checks of a pattern, in the table's order. Each equals its row of the table, for any slices that the checks before it let through.
-ghost use Rattle.std.specs.Prelude.{◌≡◌, ℕ, ◌+◌, ◌-◌, ◌<◌, ◌≤◌, Bool, true, false, List, length, unwrap_or, IfOk, IfSome};
+ghost use Rattle.std.specs.Prelude.{◌≡◌, ℕ, ◌+◌, ◌-◌, ◌<◌, ◌≤◌, Bool, true, false, List, map, length, unwrap_or, IfOk, IfSome};
 ghost use Rattle.graph.specs.Counting.{count, some};
-ghost use Rattle.sparse.specs.Limits.{max_size, max_entries};
+ghost use Rattle.sparse.specs.Limits.{max_entries};
 ghost use Rattle.sparse.specs.Matrix.{RowsBelow};
-ghost use Rattle.sparse.specs.Refusals.{first_refusal, Buffer, one_short, early, checked};
+ghost use Rattle.sparse.specs.Refusals.{first_refusal, Buffer, as_buffer, one_short, early, checked};
 ghost use Rattle.sparse.specs.Refusals.{too_large, misshapen, row_outside, repeated_row, empty_column};
 ghost use Rattle.sparse.specs.Refusals.{falls_at, repeats_at, refused_at};
 ghost use Rattle.sparse.specs.declared.refusal.Refusal.{Refusal};
@@ -69,7 +69,7 @@ fn refused_below<F: Fn(u32) -> bool + Copy, R: Fn(u32) -> Refusal>(
 
 // Whether some column starts after the next one does.
 fn any_falls(size: u32, starts: &[u32]) -> bool
-    requires { (length starts.now ≡ size + 1) × (size ≤ max_size) }
+    requires { length starts.now ≡ size + 1 }
     ensures { result ≡ some (falls_at starts.now) size }
 {
     some_below(size, |c| starts[c as usize + 1] < starts[c as usize])
@@ -77,7 +77,7 @@ fn any_falls(size: u32, starts: &[u32]) -> bool
 
 // Refusal 2.
 pub fn check_shape(size: u32, starts: &[u32], rows: &[u32]) -> Result<(), Refusal>
-    requires { (size ≤ max_size) × (length rows.now ≤ max_entries) }
+    requires { length rows.now ≤ max_entries }
     ensures { result ≡ misshapen size starts.now rows.now }
 {
     if starts.len() != size as usize + 1 {
@@ -98,6 +98,13 @@ pub fn check_rows(size: u32, rows: &[u32]) -> Result<(), Refusal>
         |k| size <= rows[k as usize],
         |k| Refusal::RowOutside(k),
     )
+}
+
+// Whether one of several buffers, each a length and a need, is shorter than its need.
+pub fn any_short(buffers: &[(usize, usize)]) -> bool
+    ensures { result ≡ one_short (map as_buffer buffers.now) }
+{
+    buffers.iter().any(|(len, need)| *len < *need)
 }
 
 // Refusals 1, 2, 5 and 3, which leave every buffer as it is; the caller has tested its buffers. What they let through is a matrix.
@@ -294,7 +301,7 @@ pub fn check_repeats(mat: &SquareMat, marks: &mut [u32]) -> Result<(), Refusal>
 
 // Refusal 8.
 pub fn check_columns(size: u32, starts: &[u32]) -> Result<(), Refusal>
-    requires { (length starts.now ≡ size + 1) × (size ≤ max_size) }
+    requires { length starts.now ≡ size + 1 }
     ensures { result ≡ empty_column size starts.now }
 {
     refused_below(

@@ -1,5 +1,5 @@
 // A matrix in its storage, as the Rust's SparseMat holds it: n + 1 column starts, and the rows column by column, both lent.
-ghost use Rattle.std.specs.Prelude.{◌≡◌, ◌<◌};
+ghost use Rattle.std.specs.Prelude.{◌≡◌, ◌<◌, None};
 ghost use Rattle.sparse.specs.Matrix.{RowsBelow, Shaped, width};
 
 use super::Column;
@@ -56,6 +56,18 @@ impl<'a> SparseMat<'a> {
         let lo: u32 = get(self.starts, c);
         let hi: u32 = get(self.starts, c.0 + 1);
         &self.rows[lo as usize..hi as usize]
+    }
+}
+
+impl<'a> SparseMat<'a> {
+    // The matrix with no column replaced.
+    pub fn unedited(self) -> EditedMat<'a>
+        ensures { (result.mat ≡ self.entry) × (result.edit ≡ None) }
+    {
+        EditedMat {
+            mat: self,
+            edit: None,
+        }
     }
 }
 

@@ -59,11 +59,11 @@ impl Refusal {
 }
 
 // The number and the place of an answer, as it crosses to C: 0 and 0 for acceptance.
-pub fn number_and_place(answer: Result<(), Refusal>) -> (u32, u32)
-    ensures { result ≡ (number_of answer, place_of answer) }
+pub fn number_and_place<T>(answer: &Result<T, Refusal>) -> (u32, u32)
+    ensures { result ≡ (number_of answer.now, place_of answer.now) }
 {
     match answer {
-        Ok(()) => (0, 0),
+        Ok(_) => (0, 0),
         Err(r) => (r.number(), r.place()),
     }
 }

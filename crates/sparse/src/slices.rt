@@ -2,9 +2,11 @@
 // After inlining none of these costs anything.
 ghost use Rattle.std.specs.Prelude.{◌≡◌, ℕ, ◌<◌, ◌≤◌, ◌++◌, length, get_or, set, replicate, drop};
 ghost use Rattle.graph.specs.Permutations.{Permutes, inverse};
+ghost use Rattle.std.specs.Option.{option_map_or};
 ghost use Rattle.sparse.specs.Buffers.{filled, zeroed};
+ghost use Rattle.sparse.specs.Limits.{none};
 
-use super::{Column, NewRow, OriginalRow};
+use super::{Column, NONE, NewRow, OriginalRow};
 
 // A kind of number, as it stands inside a slice.
 pub trait Kind: Copy {
@@ -63,6 +65,25 @@ impl Kind for NewRow {
 
     fn number(self) -> u32 {
         self.0
+    }
+}
+
+// A number of a kind, or none: inside a slice an unused number stands for none.
+impl<K: Kind> Kind for Option<K> {
+    ghost value = { λ o. option_map_or K.value o none };
+
+    fn of(number: u32) -> Option<K> {
+        if number == NONE {
+            return None;
+        }
+        Some(K::of(number))
+    }
+
+    fn number(self) -> u32 {
+        match self {
+            Some(k) => k.number(),
+            None => NONE,
+        }
     }
 }
 

@@ -3,7 +3,7 @@ use Rattle.std.proofs.lemmas.Result.{err_from_is_err_and}
 use Rattle.sparse.specs.Refusals.{early, no_room, refused_if}
 use Rattle.sparse.specs.declared.refusal.Refusal.TheVariants.{NoRoom}
 use Rattle.sparse.proofs.Refusals.{first_refused, first_passed, first_last}
-use Rattle.sparse.proofs.Matrix.{size_small, entries_few, shaped, rows_below}
+use Rattle.sparse.proofs.Matrix.{entries_few, shaped, rows_below}
 use Rattle.sparse.proofs.checks.check_early.Goals as goal
 
 pub returns-in_err-check_size-clause-value : goal.returns-in_err-check_size-clause-value
@@ -14,8 +14,7 @@ returns-in_err-check_size-clause-value c =
 
 pub check_shape-requires : goal.check_shape-requires
 check_shape-requires c =
-    let small = sym c.check_size.ensures ∙ c.in_ok-check_size.was in
-    (size_small _ _ small, entries_few _ _ small)
+    entries_few _ _ (sym c.check_size.ensures ∙ c.in_ok-check_size.was)
 
 pub returns-in_err-check_shape-clause-value : goal.returns-in_err-check_shape-clause-value
 unfolding early
