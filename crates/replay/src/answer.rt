@@ -66,8 +66,8 @@ impl Answer {
     }
 }
 
-impl From<Result<(), Refusal>> for Answer {
-    fn from(answer: Result<(), Refusal>) -> Answer {
+impl<T> From<&Result<T, Refusal>> for Answer {
+    fn from(answer: &Result<T, Refusal>) -> Answer {
         let (number, place) = number_and_place(answer);
         Answer { number, place }
     }
@@ -75,5 +75,5 @@ impl From<Result<(), Refusal>> for Answer {
 
 // The answer and its count of blocks, which is 0 without an acceptance.
 pub fn with_count(answer: Result<u32, Refusal>) -> (Answer, u32) {
-    (Answer::from(answer.map(|_| ())), answer.unwrap_or(0))
+    (Answer::from(&answer), answer.unwrap_or(0))
 }

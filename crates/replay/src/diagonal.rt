@@ -55,7 +55,7 @@ impl<'a> Case<'a> for Diagonal<'a> {
             &mut hall,
         );
         let work = self.answer.work(self.pattern.columns());
-        Answer::from(answer) == self.answer
+        Answer::from(&answer) == self.answer
             && !any_differs(&[&visited, &cheap, &scol, &sat], work)
             && !differs(&row2col, self.row2col)
             && !differs(&hall, self.hall)

@@ -53,7 +53,7 @@ impl<'a> Case<'a> for Order<'a> {
             &mut lent,
         );
         let work = self.answer.work(self.pattern.columns());
-        Answer::from(answer) == self.answer
+        Answer::from(&answer) == self.answer
             && !any_differs(&[&score2head, &prev, &next, &marks], work)
             && !differs(&new2orig, self.new2orig)
             && !differs(&orig2new, self.orig2new)
