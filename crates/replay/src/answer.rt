@@ -1,7 +1,8 @@
 // The answer of a call as it is stored, and what it says of the lent buffers.
-ghost use Rattle.std.specs.Prelude.{◌≤◌, length};
+ghost use Rattle.std.specs.Prelude.{◌≤◌};
+ghost use Rattle.replay.specs.Lists.{Fewer};
 
-use super::lists::{Numbers, zeros};
+use super::lists::{LENT_ENTRIES, Numbers, zeros};
 use sparse::Refusal;
 use sparse::refusal::number_and_place;
 
@@ -38,7 +39,7 @@ pub struct Answer {
 
 impl Answer {
     pub fn read<'a>(numbers: &mut Numbers<'a>) -> Option<Answer>
-        ensures { length numbers.new.rest.now ≤ length numbers.old.rest.now }
+        ensures { Fewer numbers.old numbers.new }
     {
         let number = numbers.number()?;
         let place = numbers.number()?;
@@ -56,7 +57,7 @@ impl Answer {
 
     // What a workspace slice with this need holds afterwards.
     pub fn work(self, need: usize) -> &'static [u32]
-        requires { need ≤ 4168 }
+        requires { need ≤ LENT_ENTRIES }
     {
         match self.outcome() {
             Outcome::Untouched => &[],
@@ -65,8 +66,8 @@ impl Answer {
     }
 }
 
-impl From<Result<(), Refusal>> for Answer {
-    fn from(answer: Result<(), Refusal>) -> Answer {
+impl<T> From<&Result<T, Refusal>> for Answer {
+    fn from(answer: &Result<T, Refusal>) -> Answer {
         let (number, place) = number_and_place(answer);
         Answer { number, place }
     }
@@ -74,5 +75,5 @@ impl From<Result<(), Refusal>> for Answer {
 
 // The answer and its count of blocks, which is 0 without an acceptance.
 pub fn with_count(answer: Result<u32, Refusal>) -> (Answer, u32) {
-    (Answer::from(answer.map(|_| ())), answer.unwrap_or(0))
+    (Answer::from(&answer), answer.unwrap_or(0))
 }

@@ -1,18 +1,16 @@
 // Cases of kind 4, `edit::edit_column`: behind the rows stand the edited column, how many rows take the place of its own, these rows
 // and the old matching. What follows is as in kind 3. Of the refusals with number 1, the one of an edit that makes a matrix too large
 // clears the workspace, and is not stored: its line would have a million rows. So `Answer::work` holds of every stored edit.
-ghost use Rattle.std.specs.Prelude.{◌≤◌, length};
-
 use super::answer::Outcome;
+use super::case::Case;
 use super::form::Form;
-use super::lent::Lent;
+use super::lent::{Lent, lend};
 use super::lists::{Numbers, holding};
-use super::pattern::Pattern;
+use super::pattern::{MAX_SIZE, Pattern};
 use sparse::Column;
-use triangular::{FormOutputs, FormWork};
 
-// The program's own limit.
-const MAX_REPLACEMENT: u32 = 64;
+// The program's own limit: a row for each there is.
+const MAX_REPLACEMENT: u32 = MAX_SIZE;
 
 #[derive(Drop)]
 pub struct Edit<'a> {
@@ -23,10 +21,17 @@ pub struct Edit<'a> {
 }
 
 impl<'a> Edit<'a> {
-    pub fn read(numbers: &mut Numbers<'a>) -> Option<Edit<'a>>
-        ensures { length numbers.new.rest.now ≤ length numbers.old.rest.now }
-    {
-        let pattern = Pattern::read(numbers)?;
+    // What row2col holds afterwards: the new matching, or without one the old.
+    fn left(&self) -> &'a [u32] {
+        match self.form.matching.answer.outcome() {
+            Outcome::Accepted => self.form.matching.row2col,
+            _ => self.old_matching,
+        }
+    }
+}
+
+impl<'a> Case<'a> for Edit<'a> {
+    fn read_behind(pattern: Pattern<'a>, numbers: &mut Numbers<'a>) -> Option<Edit<'a>> {
         let column = Column(numbers.number()?);
         let count = numbers.number_within(MAX_REPLACEMENT)?;
         let replacement = numbers.list(count as usize)?;
@@ -40,35 +45,12 @@ impl<'a> Edit<'a> {
         })
     }
 
-    // What row2col holds afterwards: the new matching, or without one the old.
-    fn left(&self) -> &'a [u32] {
-        match self.form.matching.answer.outcome() {
-            Outcome::Accepted => self.form.matching.row2col,
-            _ => self.old_matching,
-        }
-    }
-
     // Calls the function on buffers that hold junk, but for the old matching.
-    pub fn agrees(&self) -> bool {
+    fn agrees(&self) -> bool {
         let pattern = &self.form.matching.pattern;
         let mut lent = Lent::junk();
         lent.row2col = holding(self.old_matching);
-        let mut work = FormWork {
-            visited: &mut lent.visited,
-            cheap: &mut lent.cheap,
-            finished: &mut lent.finished,
-            col2row: &mut lent.col2row,
-            backstarts: &mut lent.backstarts,
-            backrows: &mut lent.backrows,
-            scol: &mut lent.scol,
-            sat: &mut lent.sat,
-        };
-        let mut outputs = FormOutputs {
-            row2col: &mut lent.row2col,
-            hall: &mut lent.hall,
-            blockcols: &mut lent.blockcols,
-            blockstarts: &mut lent.blockstarts,
-        };
+        let (mut work, mut outputs) = lend!(lent);
         let answer = edit::edit_column(
             pattern.size,
             pattern.starts,

@@ -1,8 +1,7 @@
 // Cases of kind 2, `matching::find_diag_matching`: the list is the column of each row where the answer is 0, and the Hall marks
 // where it is 9. Other answers have none.
-ghost use Rattle.std.specs.Prelude.{◌≤◌, length};
-
 use super::answer::{Answer, Outcome};
+use super::case::Case;
 use super::lists::{JUNK, LENT, Numbers, any_differs, differs, zeros};
 use super::pattern::Pattern;
 use matching::SearchWork;
@@ -16,18 +15,8 @@ pub struct Diagonal<'a> {
     pub hall: &'a [u32],
 }
 
-impl<'a> Diagonal<'a> {
-    pub fn read(numbers: &mut Numbers<'a>) -> Option<Diagonal<'a>>
-        ensures { length numbers.new.rest.now ≤ length numbers.old.rest.now }
-    {
-        let pattern = Pattern::read(numbers)?;
-        Diagonal::read_behind(pattern, numbers)
-    }
-
-    // What stands behind the pattern and what the kind adds to it.
-    pub fn read_behind(pattern: Pattern<'a>, numbers: &mut Numbers<'a>) -> Option<Diagonal<'a>>
-        ensures { length numbers.new.rest.now ≤ length numbers.old.rest.now }
-    {
+impl<'a> Case<'a> for Diagonal<'a> {
+    fn read_behind(pattern: Pattern<'a>, numbers: &mut Numbers<'a>) -> Option<Diagonal<'a>> {
         let answer = Answer::read(numbers)?;
         let size = pattern.columns();
         let (row2col, hall): (&'a [u32], &'a [u32]) = match answer.outcome() {
@@ -44,7 +33,7 @@ impl<'a> Diagonal<'a> {
     }
 
     // Calls the function on buffers that hold junk.
-    pub fn agrees(&self) -> bool {
+    fn agrees(&self) -> bool {
         let mut visited = [JUNK; LENT];
         let mut cheap = [JUNK; LENT];
         let mut scol = [JUNK; LENT];
@@ -66,7 +55,7 @@ impl<'a> Diagonal<'a> {
             &mut hall,
         );
         let work = self.answer.work(self.pattern.columns());
-        Answer::from(answer) == self.answer
+        Answer::from(&answer) == self.answer
             && !any_differs(&[&visited, &cheap, &scol, &sat], work)
             && !differs(&row2col, self.row2col)
             && !differs(&hall, self.hall)

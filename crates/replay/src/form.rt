@@ -1,14 +1,15 @@
 // Cases of kind 3, `triangular::find_block_diag_form`: the first list is that of kind 2. Where the answer is 0 the blocks follow: how
 // many there are, their columns, their starts.
-ghost use Rattle.std.specs.Prelude.{◌+◌, ◌≤◌, length};
+ghost use Rattle.std.specs.Prelude.{◌+◌, ◌≤◌};
+ghost use Rattle.replay.specs.Lists.{Fewer};
 
 use super::answer::{Outcome, with_count};
+use super::case::Case;
 use super::diagonal::Diagonal;
-use super::lent::Lent;
+use super::lent::{Lent, lend};
 use super::lists::{Numbers, any_differs, differs, zeros};
-use super::pattern::Pattern;
+use super::pattern::{MAX_ENTRIES, MAX_SIZE, Pattern};
 use sparse::Refusal;
-use triangular::{FormOutputs, FormWork};
 
 // How many blocks there are, and what blockcols and blockstarts hold afterwards.
 #[derive(Clone, Copy)]
@@ -19,10 +20,10 @@ pub struct Blocks<'a> {
 }
 
 impl<'a> Blocks<'a> {
-    fn read(size: u32, numbers: &mut Numbers<'a>) -> Option<Blocks<'a>>
-        ensures { length numbers.new.rest.now ≤ length numbers.old.rest.now }
+    fn read(pattern: &Pattern<'a>, numbers: &mut Numbers<'a>) -> Option<Blocks<'a>>
+        ensures { Fewer numbers.old numbers.new }
     {
-        let size = size as usize;
+        let size = pattern.columns();
         let count = numbers.number()?;
         let columns = numbers.list(size)?;
         let starts = numbers.list(size + 1)?;
@@ -41,35 +42,6 @@ pub struct Form<'a> {
 }
 
 impl<'a> Form<'a> {
-    pub fn read(numbers: &mut Numbers<'a>) -> Option<Form<'a>>
-        ensures { length numbers.new.rest.now ≤ length numbers.old.rest.now }
-    {
-        let pattern = Pattern::read(numbers)?;
-        Form::read_behind(pattern, numbers)
-    }
-
-    // What stands behind the pattern and what the kind adds to it.
-    pub fn read_behind(pattern: Pattern<'a>, numbers: &mut Numbers<'a>) -> Option<Form<'a>>
-        ensures { length numbers.new.rest.now ≤ length numbers.old.rest.now }
-    {
-        let matching = Diagonal::read_behind(pattern, numbers)?;
-        let size = matching.pattern.columns();
-        let blocks = match matching.answer.outcome() {
-            Outcome::Accepted => Blocks::read(matching.pattern.size, numbers)?,
-            Outcome::Unmatched => Blocks {
-                count: 0,
-                columns: zeros(size),
-                starts: zeros(size + 1),
-            },
-            Outcome::Untouched | Outcome::Cleared => Blocks {
-                count: 0,
-                columns: &[],
-                starts: &[],
-            },
-        };
-        Some(Form { matching, blocks })
-    }
-
     // Whether an answer is the stored one, and every buffer holds what it is to. The caller says how long a part of backrows is
     // workspace, and what row2col is to hold.
     pub fn is_answered(
@@ -79,7 +51,7 @@ impl<'a> Form<'a> {
         back: usize,
         row2col: &[u32],
     ) -> bool
-        requires { back ≤ 64 + 4096 }
+        requires { back ≤ MAX_SIZE + MAX_ENTRIES }
     {
         let stored = self.matching.answer;
         let size = self.matching.pattern.columns();
@@ -105,27 +77,33 @@ impl<'a> Form<'a> {
             && !differs(&lent.blockcols, self.blocks.columns)
             && !differs(&lent.blockstarts, self.blocks.starts)
     }
+}
+
+impl<'a> Case<'a> for Form<'a> {
+    fn read_behind(pattern: Pattern<'a>, numbers: &mut Numbers<'a>) -> Option<Form<'a>> {
+        let matching = Diagonal::read_behind(pattern, numbers)?;
+        let size = matching.pattern.columns();
+        let blocks = match matching.answer.outcome() {
+            Outcome::Accepted => Blocks::read(&matching.pattern, numbers)?,
+            Outcome::Unmatched => Blocks {
+                count: 0,
+                columns: zeros(size),
+                starts: zeros(size + 1),
+            },
+            Outcome::Untouched | Outcome::Cleared => Blocks {
+                count: 0,
+                columns: &[],
+                starts: &[],
+            },
+        };
+        Some(Form { matching, blocks })
+    }
 
     // Calls the function on buffers that hold junk.
-    pub fn agrees(&self) -> bool {
+    fn agrees(&self) -> bool {
         let pattern = &self.matching.pattern;
         let mut lent = Lent::junk();
-        let mut work = FormWork {
-            visited: &mut lent.visited,
-            cheap: &mut lent.cheap,
-            finished: &mut lent.finished,
-            col2row: &mut lent.col2row,
-            backstarts: &mut lent.backstarts,
-            backrows: &mut lent.backrows,
-            scol: &mut lent.scol,
-            sat: &mut lent.sat,
-        };
-        let mut outputs = FormOutputs {
-            row2col: &mut lent.row2col,
-            hall: &mut lent.hall,
-            blockcols: &mut lent.blockcols,
-            blockstarts: &mut lent.blockstarts,
-        };
+        let (mut work, mut outputs) = lend!(lent);
         let answer = triangular::find_block_diag_form(
             pattern.size,
             pattern.starts,

@@ -35,3 +35,29 @@ impl Lent {
         }
     }
 }
+
+// The buffers as a call takes them: its workspace, and what it answers in.
+macro_rules! lend {
+    ($lent:ident) => {
+        (
+            triangular::FormWork {
+                visited: &mut $lent.visited,
+                cheap: &mut $lent.cheap,
+                finished: &mut $lent.finished,
+                col2row: &mut $lent.col2row,
+                backstarts: &mut $lent.backstarts,
+                backrows: &mut $lent.backrows,
+                scol: &mut $lent.scol,
+                sat: &mut $lent.sat,
+            },
+            triangular::FormOutputs {
+                row2col: &mut $lent.row2col,
+                hall: &mut $lent.hall,
+                blockcols: &mut $lent.blockcols,
+                blockstarts: &mut $lent.blockstarts,
+            },
+        )
+    };
+}
+
+pub(crate) use lend;

@@ -1,18 +1,19 @@
 // Reading lists of numbers, and comparing lent buffers with what they are to hold.
 ghost use Rattle.std.specs.Prelude.{◌≡◌, ℕ, ◌+◌, ◌≤◌, ◌<◌, ◌↔◌, [], ◌∷◌, ◌++◌, length, get_or, replicate, IsNone, IfSome};
 ghost use Rattle.graph.specs.Counting.{some};
-ghost use Rattle.replay.specs.Lists.{part_of, differs_at, junk};
+ghost use Rattle.replay.specs.Lists.{Fewer, part_of, differs_at};
 
+use super::pattern::{MAX_ENTRIES, MAX_SIZE};
 use std::array;
 
 // What stands in a lent buffer before a call: nothing that a call stores.
 pub const JUNK: u32 = 3735928559;
 
 // Of each lent buffer something lies beyond the largest size.
-pub const LENT: usize = 72;
+pub const LENT: usize = MAX_SIZE as usize + 8;
 
 // The same for a buffer that goes by entries: something lies beyond the most of them and the rows of one more column.
-pub const LENT_ENTRIES: usize = 4168;
+pub const LENT_ENTRIES: usize = MAX_ENTRIES as usize + LENT;
 
 static ZEROS: [u32; LENT_ENTRIES] = [0; LENT_ENTRIES];
 
@@ -27,7 +28,7 @@ impl<'a> Numbers<'a> {
     pub fn number(&mut self) -> Option<u32>
         ensures value { IfSome result (λ n. self.old.rest.now ≡ n ∷ self.new.rest.now) }
         ensures end { IsNone result ↔ (self.old.rest.now ≡ []) }
-        ensures fewer { length self.new.rest.now ≤ length self.old.rest.now }
+        ensures fewer { Fewer self.old self.new }
     {
         let (first, rest) = self.rest.split_first()?;
         self.rest = rest;
@@ -37,7 +38,7 @@ impl<'a> Numbers<'a> {
     // The next number, or none where it is over a limit or missing.
     pub fn number_within(&mut self, limit: u32) -> Option<u32>
         ensures value { IfSome result (λ n. n ≤ limit) }
-        ensures fewer { length self.new.rest.now ≤ length self.old.rest.now }
+        ensures fewer { Fewer self.old self.new }
     {
         self.number().filter(|n| *n <= limit)
     }
@@ -48,7 +49,7 @@ impl<'a> Numbers<'a> {
         ensures rest { IfSome result (λ list. self.old.rest.now ≡ list.now ++ self.new.rest.now) }
         ensures len { IfSome result (λ list. length list.now ≡ count) }
         ensures end { IsNone result ↔ (length self.old.rest.now < count) }
-        ensures fewer { length self.new.rest.now ≤ length self.old.rest.now }
+        ensures fewer { Fewer self.old self.new }
     {
         let (list, rest) = self.rest.split_at_checked(count)?;
         self.rest = rest;
@@ -58,14 +59,14 @@ impl<'a> Numbers<'a> {
 
 // The number that a list has at a place, or junk past its end.
 fn number_or_junk(list: &[u32], i: usize) -> u32
-    ensures { result ≡ get_or list.now i junk }
+    ensures { result ≡ get_or list.now i JUNK }
 {
     list.get(i).copied().unwrap_or(JUNK)
 }
 
 // What stands where a call has cleared so many numbers.
 pub fn zeros(count: usize) -> &'static [u32]
-    requires { count ≤ 4168 }
+    requires { count ≤ LENT_ENTRIES }
     ensures { result.now ≡ replicate count 0 }
 {
     &ZEROS[..count]
@@ -73,7 +74,7 @@ pub fn zeros(count: usize) -> &'static [u32]
 
 // A buffer with a list at its start and junk after that.
 pub fn holding(list: &[u32]) -> [u32; LENT]
-    ensures { (i : ℕ) → i < 72 → get_or result i 0 ≡ get_or list.now i junk }
+    ensures { (i : ℕ) → i < LENT → get_or result i 0 ≡ get_or list.now i JUNK }
 {
     array::from_fn(|i| number_or_junk(list, i))
 }
@@ -82,12 +83,10 @@ pub fn holding(list: &[u32]) -> [u32; LENT]
 pub fn differs(buffer: &[u32], list: &[u32]) -> bool
     ensures { result ≡ some (differs_at buffer.now list.now) (length buffer.now) }
 {
-    for (i, number) in buffer.iter().enumerate() {
-        if *number != number_or_junk(list, i) {
-            return true;
-        }
-    }
-    false
+    buffer
+        .iter()
+        .enumerate()
+        .any(|(i, number)| *number != number_or_junk(list, i))
 }
 
 // The same of several buffers that are to hold one list.

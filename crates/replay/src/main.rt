@@ -1,10 +1,12 @@
 // Replays stored cases: each calls a function of the library, and its answer and every lent buffer are compared with what is stored.
 #![tactic(auto)]
 
-ghost use Rattle.std.specs.Prelude.{◌≤◌, length, IfOk};
+ghost use Rattle.std.specs.Prelude.{IfOk};
 ghost use Rattle.io.specs.Counts.{IsPrefixLen};
+ghost use Rattle.replay.specs.Lists.{Fewer};
 
 mod answer;
+mod case;
 mod column;
 mod diagonal;
 mod form;
@@ -15,29 +17,34 @@ mod order;
 mod pattern;
 mod text;
 
+use case::replay;
+use column::Edit;
+use diagonal::Diagonal;
+use form::Form;
 use kind::Kind;
 use lists::Numbers;
+use order::Order;
 use std::io;
 use std::io::{Input, Print, Read};
-use text::{Cut, read_numbers};
+use text::read_numbers;
 
 const MAX_TEXT: usize = 163840;
 
 // One byte more, to tell the longest text from a longer one.
-const TEXT_ROOM: usize = 163841;
+const TEXT_ROOM: usize = MAX_TEXT + 1;
 
 // A text with more numbers is malformed behind them.
 const NUMBERS_ROOM: usize = 65537;
 
 // Whether the next case agrees, or none where it is malformed. Each kind has its line here.
 fn replay_case(code: u32, numbers: &mut Numbers) -> Option<bool>
-    ensures { length numbers.new.rest.now ≤ length numbers.old.rest.now }
+    ensures { Fewer numbers.old numbers.new }
 {
     match Kind::try_from(code).ok()? {
-        Kind::Order => Some(order::Order::read(numbers)?.agrees()),
-        Kind::Diagonal => Some(diagonal::Diagonal::read(numbers)?.agrees()),
-        Kind::Form => Some(form::Form::read(numbers)?.agrees()),
-        Kind::Edit => Some(column::Edit::read(numbers)?.agrees()),
+        Kind::Order => replay::<Order>(numbers),
+        Kind::Diagonal => replay::<Diagonal>(numbers),
+        Kind::Form => replay::<Form>(numbers),
+        Kind::Edit => replay::<Edit>(numbers),
     }
 }
 
@@ -92,6 +99,6 @@ fn main(rt: HostRuntime) -> io::Result<()> {
     }
     let mut numbers = [0u32; NUMBERS_ROOM];
     let found = read_numbers(&text[..length], &mut numbers);
-    let (Ok(count) | Err(Cut { count })) = found;
+    let count = found.unwrap_or_else(|cut| cut.count);
     replay_all(&rt, &numbers[..count], found.is_ok())
 }

@@ -1,7 +1,6 @@
 // Cases of kind 1, `ordering::order_simple`: the lists, where the answer is 0, are the columns by place and the places by column.
-ghost use Rattle.std.specs.Prelude.{◌≤◌, length};
-
 use super::answer::{Answer, Outcome};
+use super::case::Case;
 use super::lists::{JUNK, LENT, Numbers, any_differs, differs};
 use super::pattern::Pattern;
 use ordering::OrderBuffers;
@@ -14,11 +13,8 @@ pub struct Order<'a> {
     orig2new: &'a [u32],
 }
 
-impl<'a> Order<'a> {
-    pub fn read(numbers: &mut Numbers<'a>) -> Option<Order<'a>>
-        ensures { length numbers.new.rest.now ≤ length numbers.old.rest.now }
-    {
-        let pattern = Pattern::read(numbers)?;
+impl<'a> Case<'a> for Order<'a> {
+    fn read_behind(pattern: Pattern<'a>, numbers: &mut Numbers<'a>) -> Option<Order<'a>> {
         let answer = Answer::read(numbers)?;
         let listed = match answer.outcome() {
             Outcome::Accepted => pattern.columns(),
@@ -35,7 +31,7 @@ impl<'a> Order<'a> {
     }
 
     // Calls the function on buffers that hold junk.
-    pub fn agrees(&self) -> bool {
+    fn agrees(&self) -> bool {
         let mut score2head = [JUNK; LENT];
         let mut prev = [JUNK; LENT];
         let mut next = [JUNK; LENT];
@@ -57,7 +53,7 @@ impl<'a> Order<'a> {
             &mut lent,
         );
         let work = self.answer.work(self.pattern.columns());
-        Answer::from(answer) == self.answer
+        Answer::from(&answer) == self.answer
             && !any_differs(&[&score2head, &prev, &next, &marks], work)
             && !differs(&new2orig, self.new2orig)
             && !differs(&orig2new, self.orig2new)

@@ -1,12 +1,14 @@
 // What a case of every kind begins with: size, entries, the starts, the rows.
 ghost use Rattle.std.specs.Prelude.{◌≡◌, ◌≤◌, length};
+ghost use Rattle.replay.specs.Lists.{Fewer};
+ghost use Rattle.replay.specs.declared.pattern.TheConstants.{MAX_SIZE, MAX_ENTRIES};
 
 use super::lists::Numbers;
 
 // The program's own limits.
-const MAX_SIZE: u32 = 64;
+pub const MAX_SIZE: u32 = 64;
 
-const MAX_ENTRIES: u32 = 4096;
+pub const MAX_ENTRIES: u32 = 4096;
 
 // A pattern within the program's limits.
 #[derive(Drop)]
@@ -14,12 +16,12 @@ pub struct Pattern<'a> {
     pub size: u32,
     pub starts: &'a [u32],
     pub rows: &'a [u32],
-    ghost small: { (size ≤ 64) × (length rows.now ≤ 4096) },
+    ghost small: { (size ≤ MAX_SIZE) × (length rows.now ≤ MAX_ENTRIES) },
 }
 
 impl<'a> Pattern<'a> {
     pub fn read(numbers: &mut Numbers<'a>) -> Option<Pattern<'a>>
-        ensures { length numbers.new.rest.now ≤ length numbers.old.rest.now }
+        ensures { Fewer numbers.old numbers.new }
     {
         let size = numbers.number_within(MAX_SIZE)?;
         let entries = numbers.number_within(MAX_ENTRIES)?;

@@ -33,12 +33,7 @@ fn skip(text: &[u8], from: usize) -> Option<usize>
     ensures value { result ≡ skipped from (drop from text.now) }
     ensures within { IfSome result (λ start. start < length text.now) }
 {
-    for i in from..text.len() {
-        if digit(text[i]).is_some() {
-            return Some(i);
-        }
-    }
-    None
+    (from..text.len()).find(|i| digit(text[*i]).is_some())
 }
 
 // The number that the digits from here on spell.
@@ -51,11 +46,10 @@ fn spell(text: &[u8], from: usize) -> Result<Spelled, TooLarge>
         let Some(digit) = digit(text[end]) else {
             return Ok(Spelled { value, end });
         };
-        let more = u64::from(value) * 10 + u64::from(digit);
-        let Ok(more) = u32::try_from(more) else {
-            return Err(TooLarge);
-        };
-        value = more;
+        value = value
+            .checked_mul(10)
+            .and_then(|tens| tens.checked_add(digit))
+            .ok_or(TooLarge)?;
     }
     Ok(Spelled {
         value,

@@ -1,17 +1,12 @@
-use Rattle.std.proofs.Common.{sym, ap, is_some, ◌∙◌}
-use Rattle.replay.proofs.Turns.{skip_end, skip_digit, skip_other}
+-- `skip` meets its contract: what `find` says of the places gives the place that the definition does.
+use Rattle.std.proofs.Common.{◌≡◌, true, false, is_some, get_or, rules, tests}
+use Rattle.std.proofs.lemmas.Iterator.{first_from_Range}
+use Rattle.replay.specs.Text.{digit_of}
+use Rattle.replay.proofs.Turns.{skips}
 use Rattle.replay.proofs.text.skip.Goals as goal
-
-pub returns-then-is_some-clause-value : goal.returns-then-is_some-clause-value
-returns-then-is_some-clause-value c =
-    sym (skip_digit c.args.text.now c.loop-i.i c.loop-i-test.true
-    (ap is_some (sym c.digit.ensures) ∙ sym c.is_some.ensures ∙ c.if-is_some.true)) ∙ c.loop-i.invariant
-
-pub loop-i-preserved : goal.loop-i-preserved
-loop-i-preserved c =
-    skip_other c.args.text.now c.loop-i.i c.loop-i-test.true
-    (ap is_some (sym c.digit.ensures) ∙ sym c.is_some.ensures ∙ c.if-is_some.false) ∙ c.loop-i.invariant
 
 pub returns-clause-value : goal.returns-clause-value
 returns-clause-value c =
-    sym (skip_end c.args.text.now c.loop-i.i c.loop-i-test.false) ∙ c.loop-i.invariant
+    let text = c.args.text.now in
+    skips text c.args.from c.find.result (first_from_Range _ _ _ _ (λ k. is_some (digit_of (get_or text k 0)) ≡ true)
+    (λ k. is_some (digit_of (get_or text k 0)) ≡ false) c.find.ensures.ran (λ x q k. search (rules, tests)) (λ x q k. search (rules, tests)))
