@@ -3,15 +3,17 @@ use Rattle.std.proofs.Common.{ℕ, ◌+◌, ◌≤◌, ◌<◌, ◌≡◌, refl,
 use Rattle.std.proofs.Common.{get_or-take, length-take-le, take-take}
 use mathlib.Core.Path.{fun_ext}
 use mathlib.Core.List.Memᴰ
-use native.Mathlib.Decide.{dec_lt}
+use native.Mathlib.Decide.{ℕ_discrete, dec_lt}
 use lib.Seq.{slice}
 use Rattle.graph.specs.Lists.{Mem, elem, range}
 use Rattle.graph.specs.Matchings.{Row, Col, Pattern, Inside, partner}
 use Rattle.graph.specs.Permutations.{Inverse}
 use Rattle.graph.specs.Blocks.{targets, parents}
+use Rattle.graph.specs.Edits.{edited}
+use Rattle.graph.proofs.Edits.{edited_same, edited_other}
 use Rattle.graph.proofs.Lists.{elem_mem, keep_only, range_is}
 use Rattle.sparse.specs.Limits.{max_size}
-use Rattle.sparse.specs.Matrix.{column, Shaped}
+use Rattle.sparse.specs.Matrix.{column, column_or, Shaped}
 use Rattle.sparse.proofs.Matrix.{column_end, column_beyond}
 use Rattle.blocks.specs.Reverse.{entries, Reversible, ReverseRoom, Reversed}
 use Rattle.blocks.proofs.Totals.{targets_low}
@@ -99,12 +101,26 @@ back_column {n} {col} {m} {inv} {starts = starts} {rows = rows} small R room T d
     go (no l) = column_beyond S d (omega arith) ∙ sym (ap (map (partner inv)) (parents_beyond R d (omega arith)))
 
 -- so its graph is that of the parents
-pub back_kids : {n : ℕ} {col : Pattern} {m : List Col} {inv : List Row} {starts₀ rows₀ starts rows : List ℕ}
+pub back_graph : {n : ℕ} {col : Pattern} {m : List Col} {inv : List Row} {starts₀ rows₀ starts rows : List ℕ}
     → n ≤ max_size → Reversible n col m → Inverse n m inv → ReverseRoom n col starts rows → Reversed n col m inv starts₀ rows₀ starts rows
     → targets (column (take (n + 1) starts) (take (entries n col) rows)) m ≡ parents n (targets col m)
-back_kids {n} {col} {m} {inv} small R I room T = fun_ext (λ d.
+back_graph {n} {col} {m} {inv} small R I room T = fun_ext (λ d.
     ap (map (partner m)) (back_column small R room T d)
     ∙ back_again n m inv I (parents n (targets col m) d) (λ c i. (parent_is n (targets col m) d c i).0))
+
+-- and so it is where a column beyond the last is given no rows
+pub back_kids : {n : ℕ} {col : Pattern} {m : List Col} {inv : List Row} {starts₀ rows₀ starts rows : List ℕ} (e : Col) → n ≤ e
+    → n ≤ max_size → Reversible n col m → Inverse n m inv → ReverseRoom n col starts rows → Reversed n col m inv starts₀ rows₀ starts rows
+    → targets (column_or (take (n + 1) starts) (take (entries n col) rows) e []) m ≡ parents n (targets col m)
+back_kids {n} {col} {m} {inv} {starts = starts} {rows = rows} e none small R I room T =
+    ap (λ p. targets p m) (fun_ext (λ d. same d (ℕ_discrete d e))) ∙ back_graph small R I room T
+  where
+    p : Pattern
+    p = column (take (n + 1) starts) (take (entries n col) rows)
+
+    same : (d : Col) → Dec (d ≡ e) → edited p e [] d ≡ p d
+    same d (yes z) = rw z (edited_same p e [] ∙ sym (column_beyond (back_shaped small room T) e none))
+    same d (no ne) = edited_other p e [] d ne
 
 -- every entry is inside
 pub back_inside : {n : ℕ} {col : Pattern} {m : List Col} {inv : List Row} {starts₀ rows₀ starts rows : List ℕ}

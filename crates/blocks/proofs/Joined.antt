@@ -14,7 +14,7 @@ use Rattle.blocks.specs.Walk.{last_first}
 use Rattle.blocks.specs.Cut.{second_pass, Finished, CutReady}
 use Rattle.blocks.specs.Reverse.{entries, Reversible, ReverseRoom, Reversed}
 use Rattle.blocks.proofs.Whole.{targets_below}
-use Rattle.blocks.proofs.Backward.{back_shaped, back_kids, back_inside}
+use Rattle.blocks.proofs.Backward.{back_shaped, back_graph, back_inside}
 
 -- ---- after the first pass
 
@@ -56,4 +56,4 @@ pub cut_is_blocks : {n : ℕ} {col : Pattern} {m : List Col} {inv : List Row} {s
     → cut (targets (column (take (n + 1) starts) (take (entries n col) rows)) m) n [] (last_first fs n) ≡ blocks n (targets col m)
 unfolding blocks
 cut_is_blocks {n} {col} {m} {fs = fs} small R I room T F =
-    ap (λ k. cut k n [] (last_first fs n)) (back_kids small R I room T) ∙ ap (cut (parents n (targets col m)) n []) F.finishes
+    ap (λ k. cut k n [] (last_first fs n)) (back_graph small R I room T) ∙ ap (cut (parents n (targets col m)) n []) F.finishes

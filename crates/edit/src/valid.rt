@@ -68,6 +68,7 @@ pub fn edit_valid(
     clear(work.cheap, size);
     // What is only read has a name of its own, so that what it holds stays known to the proof.
     let col2row = &mut *work.col2row;
+    let row2col = &mut *outputs.row2col;
     let row: OriginalRow = get(col2row, edit.column);
     let mut slices = SearchWork {
         visited: &mut *work.visited,
@@ -75,7 +76,7 @@ pub fn edit_valid(
         scol: &mut *work.scol,
         sat: &mut *work.sat,
     };
-    let failed = rematch(mat, edit, row, &mut slices, outputs.row2col);
+    let failed = rematch(mat, edit, row, &mut slices, row2col);
     if let Some(c) = failed {
         return refuse_edit(size, c, work, outputs);
     }
@@ -84,6 +85,12 @@ pub fn edit_valid(
         mat: mat.mat,
         edit: Some(*edit),
     };
-    let count = block_matched(&edited, work, outputs);
+    let count = block_matched(
+        &edited,
+        row2col,
+        work,
+        outputs.blockcols,
+        outputs.blockstarts,
+    );
     Ok(count)
 }

@@ -228,7 +228,7 @@ handed_means size starts rows l (refused c seen) G D = record {
 small_none : {n : ℕ} → n ≤ max_size → n ≤ none
 small_none l = omega arith
 
-verdict_means : (size : ℕ) (starts : List ℕ) (rows : List Row) (l after : Lent) (answer : Checked)
+pub verdict_means : (size : ℕ) (starts : List ℕ) (rows : List Row) (l after : Lent) (answer : Checked)
     → first_refusal (early size starts rows (buffers size l)) ≡ passed → repeated_row size starts rows ≡ passed
     → ended answer after ≡ handed_out size l (matching size (column starts rows)) → Means size starts rows l after answer
 verdict_means size starts rows l after answer p e f =

@@ -32,18 +32,26 @@ pub fn block_valid(
     ensures same_work { SameWork mat.now.mat.size (length mat.now.mat.rows.now) (held_work work.old) (held_work work.new) }
     ensures same_slices { SameSlices work.old work.new × SameOutputs outputs.old outputs.new }
 {
+    // What is only read later has a name of its own, so that what it holds stays known to the proof.
+    let row2col = &mut *outputs.row2col;
     let mut slices = SearchWork {
         visited: &mut *work.visited,
         cheap: &mut *work.cheap,
         scol: &mut *work.scol,
         sat: &mut *work.sat,
     };
-    let matched = match_valid(mat, &mut slices, outputs.row2col, outputs.hall);
+    let matched = match_valid(mat, &mut slices, row2col, outputs.hall);
     let Ok(()) = matched else {
         clear_blocks(mat.mat.size, outputs);
         return matched.map(|()| 0);
     };
-    let count = block_matched(&mat.mat.unedited(), work, outputs);
+    let count = block_matched(
+        &mat.mat.unedited(),
+        row2col,
+        work,
+        outputs.blockcols,
+        outputs.blockstarts,
+    );
     Ok(count)
 }
 

@@ -1,5 +1,5 @@
 // The blocks of a matrix under a perfect matching: the first pass, the graph reversed, and the second pass over it.
-ghost use Rattle.std.specs.Prelude.{◌≡◌, [], ◌+◌, ◌≤◌, ◌<◌, length, get_or, take};
+ghost use Rattle.std.specs.Prelude.{[], ◌+◌, ◌≤◌, ◌<◌, length, get_or, take};
 ghost use Rattle.graph.specs.Blocks.{targets, blocks, cut};
 ghost use Rattle.sparse.specs.Columns.{edited_columns};
 ghost use Rattle.sparse.specs.Limits.{max_entries};
@@ -8,11 +8,10 @@ ghost use Rattle.sparse.specs.Refusals.{Roomy};
 ghost use Rattle.blocks.specs.Walk.{last_first, SameFrom};
 ghost use Rattle.blocks.specs.Reverse.{entries, Reversible};
 ghost use Rattle.blocks.specs.Cut.{second_pass, PassReady, CutReady, HoldsBlocks};
-ghost use Rattle.triangular.specs.Outcome.{form_need, starts_need, work_buffers};
-ghost use Rattle.triangular.specs.Outcome.{held_work, held_outputs, holding_outputs, with_blocks};
+ghost use Rattle.triangular.specs.Outcome.{form_need, starts_need, work_buffers, held_work};
 ghost use Rattle.triangular.specs.Parts.{SameWork, SameSlices};
 
-use super::form::{FormOutputs, FormWork};
+use super::form::FormWork;
 use blocks::cut::{cut_blocks, finish_columns};
 use blocks::matched::MatchedMat;
 use blocks::reverse::reverse_graph;
@@ -51,34 +50,36 @@ fn cut_matched(
 
 // The blocks of a matrix under a perfect matching. Returns how many there are. What the workspace holds afterwards is the caller's to
 // clear.
-pub fn block_matched(mat: &EditedMat, work: &mut FormWork, outputs: &mut FormOutputs) -> u32
-    requires reversible { Reversible mat.now.mat.size (edited_columns mat.now) outputs.old.row2col.now
+pub fn block_matched(
+    mat: &EditedMat,
+    row2col: &[u32],
+    work: &mut FormWork,
+    blockcols: &mut [u32],
+    blockstarts: &mut [u32],
+) -> u32
+    requires reversible { Reversible mat.now.mat.size (edited_columns mat.now) row2col.now
         × (entries mat.now.mat.size (edited_columns mat.now) ≤ max_entries) }
     requires roomy { Roomy (work_buffers mat.now.mat.size (entries mat.now.mat.size (edited_columns mat.now))
         (held_work work.old)) }
-    requires size_in_bounds { (form_need mat.now.mat.size ≤ length outputs.old.blockcols.now)
-        × (starts_need mat.now.mat.size ≤ length outputs.old.blockstarts.now) }
+    requires size_in_bounds { (form_need mat.now.mat.size ≤ length blockcols.old)
+        × (starts_need mat.now.mat.size ≤ length blockstarts.old) }
     ensures holds_blocks { HoldsBlocks mat.now.mat.size (blocks mat.now.mat.size (targets (edited_columns mat.now)
-        outputs.old.row2col.now)) outputs.old.blockcols.now outputs.old.blockstarts.now outputs.new.blockcols.now
-        outputs.new.blockstarts.now result }
-    ensures same_outputs { outputs.new ≡ holding_outputs outputs.old (with_blocks (held_outputs outputs.old)
-        outputs.new.blockcols.now outputs.new.blockstarts.now) }
+        row2col.now)) blockcols.old blockstarts.old blockcols.new blockstarts.new result }
     ensures same_work { SameWork mat.now.mat.size (entries mat.now.mat.size (edited_columns mat.now)) (held_work work.old)
         (held_work work.new) }
     ensures same_slices { SameSlices work.old work.new }
 {
     let size = mat.mat.size;
     clear(work.visited, size);
-    // What is read while other slices of its struct are lent has a name of its own.
-    let row2col = &mut *outputs.row2col;
     let mut first = WalkWork {
         visited: &mut *work.visited,
         scol: &mut *work.scol,
         sat: &mut *work.sat,
-        entered: &mut *outputs.blockcols,
+        entered: &mut *blockcols,
         finished: &mut *work.finished,
     };
     finish_columns(mat, row2col, &mut first);
+    // What is read while other slices of its struct are lent has a name of its own.
     let finished = &mut *work.finished;
     let col2row = &mut *work.col2row;
     let backstarts = &mut *work.backstarts;
@@ -91,7 +92,7 @@ pub fn block_matched(mat: &EditedMat, work: &mut FormWork, outputs: &mut FormOut
         visited: &mut *work.visited,
         scol: &mut *work.scol,
         sat: &mut *work.sat,
-        entered: &mut *outputs.blockcols,
+        entered: &mut *blockcols,
         finished: &mut *work.cheap,
     };
     cut_matched(
@@ -101,6 +102,6 @@ pub fn block_matched(mat: &EditedMat, work: &mut FormWork, outputs: &mut FormOut
         row2col,
         finished,
         &mut second,
-        outputs.blockstarts,
+        blockstarts,
     )
 }

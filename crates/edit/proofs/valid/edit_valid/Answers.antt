@@ -1,6 +1,6 @@
 -- `edit_valid` meets its contract: a search that failed is refused with its stamps as marks, and a path found is cut into blocks.
-use Rattle.std.proofs.Common.{rules, Ok, refl, ap, ◌∙◌}
-use Rattle.triangular.specs.Outcome.{held_work, held_outputs, held, ended, lent}
+use Rattle.std.proofs.Common.{rules, refl}
+use Rattle.triangular.specs.Outcome.{held_work, held}
 use Rattle.edit.proofs.EditedEntries.{entries_few}
 use Rattle.edit.proofs.ValidEdit.{search_same, edited_room, passed_same}
 use Rattle.edit.proofs.ValidEdit.{searched, searched_reversible, searched_accepted, searched_refused}
@@ -42,8 +42,7 @@ returns-clause-outputs_after c =
     let found = c.rematch-failed.ensures in
     let S = searched c.args.mat.now c.args.edit.now l c.requires.once c.requires.editable c.requires.roomy found.ends_at
     found.row2col_unchanged found.same_beyond c.rematch-failed.auto.row2col in
-    λ u. ap (λ x. ended (Ok c.block_matched-count.result) (lent u x)) (ap held_outputs c.block_matched-count.ensures.same_outputs)
-    ∙ searched_accepted S c.in_default.is c.clear-3.ensures c.block_matched-count.ensures.holds_blocks u
+    λ u. searched_accepted S c.in_default.is c.clear-3.ensures c.block_matched-count.ensures.holds_blocks u
 
 pub returns-clause-same_work : goal.returns-clause-same_work
 returns-clause-same_work c =

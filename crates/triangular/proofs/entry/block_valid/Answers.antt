@@ -1,11 +1,11 @@
 -- `block_valid` meets its contract: a refusal of the matching is passed on, and an acceptance is cut into blocks.
-use Rattle.std.proofs.Common.{arith, rules, Ok, ◌≡◌, refl, ap, ◌∙◌, length}
+use Rattle.std.proofs.Common.{arith, rules, ◌≡◌, refl, length}
 use Rattle.std.proofs.lemmas.Result.{MatchResult-at_err}
 use Rattle.sparse.specs.Columns.{columns}
 use Rattle.matching.specs.Matching.{matching}
 use Rattle.matching.specs.Outcome as m
 use Rattle.blocks.proofs.Entries.{entries_plain}
-use Rattle.triangular.specs.Outcome.{held_work, held_outputs, held, ended, lent, passed_on}
+use Rattle.triangular.specs.Outcome.{held_work, held_outputs, held, passed_on}
 use Rattle.triangular.proofs.Room.{lent_room, kept_room}
 use Rattle.triangular.proofs.Outcome.{handed_on, hand_passed}
 use Rattle.triangular.proofs.Valid.{given_square, handed_reversible, valid_accepted}
@@ -48,8 +48,7 @@ returns-clause-outputs_after c =
     let work = c.args.work.now in
     let o = held_outputs c.args.outputs.now in
     let l = m.lent work.visited.now work.cheap.now work.scol.now work.sat.now o.row2col o.hall in
-    λ v. ap (λ x. ended (Ok c.block_matched-count.result) (lent v x)) (ap held_outputs c.block_matched-count.ensures.same_outputs)
-    ∙ valid_accepted _ _ _ (held work c.args.outputs.now) v _ _ _ _ _
+    λ v. valid_accepted _ _ _ (held work c.args.outputs.now) v _ _ _ _ _
     (given_square c.args.mat.now (held work c.args.outputs.now) c.requires.once c.requires.roomy)
     (handed_on _ l o _ _ _ _ refl refl (c.match_valid-matched.ensures.hall_after l refl refl) c.in-Ok.is)
     (rw (c.unedited.ensures.0, c.unedited.ensures.1) at c.block_matched-count.ensures.holds_blocks)

@@ -39,7 +39,7 @@ cut_matched-requires-clause-pass_ready c =
 
 pub cut_matched-requires-clause-cut_ready : goal.cut_matched-requires-clause-cut_ready
 cut_matched-requires-clause-cut_ready c =
-    subst (λ x. CutReady c.args.mat.now.mat.size x c.args.outputs.now.blockstarts.now)
+    subst (λ x. CutReady c.args.mat.now.mat.size x c.args.blockstarts.now)
     (search (rules, c.finish_columns.ensures.same_from.finished.itself))
     (finished_ready c.requires.reversible.0.inside c.requires.reversible.0.permutes.below c.finish_columns.ensures.finished
     (omega (arith, (work_room _ _ (held_work c.args.work.now) c.requires.roomy).finished, c.finish_columns.ensures.same_from.finished.same_length))
@@ -64,7 +64,7 @@ returns-clause-same_work c =
           (search (rules, first.visited.itself)) (search (rules, second.visited.itself)));
       cheap = walk_stays second.finished (search (rules, second.finished.itself));
       finished = walk_stays first.finished (search (rules, first.finished.itself));
-      col2row = inverse_stays c.args.outputs.now.row2col.now c.invert.ensures c.invert.auto.back;
+      col2row = inverse_stays c.args.row2col.now c.invert.ensures c.invert.auto.back;
       backstarts = record { same_length = kept.backstarts; beyond = c.reverse_graph.ensures.starts_beyond };
       backrows = record { same_length = kept.backrows; beyond = c.reverse_graph.ensures.rows_beyond };
       cols = walks_stay first.scol second.scol (search (rules, first.scol.itself)) (search (rules, second.scol.itself));
