@@ -36,7 +36,7 @@ fn refuse_edit(
         (table (λ d. bit (eqb (get_or work.now.visited.now d 0) (c.0 + 1))) size) (held_outputs outputs.old)) }
 {
     mark_hall(size, work.visited, c.0 + 1, outputs.hall);
-    clear_blocks(size, outputs);
+    clear_blocks(size, outputs.blockcols, outputs.blockstarts);
     Err(Refusal::Unmatchable(c))
 }
 

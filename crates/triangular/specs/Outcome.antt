@@ -80,10 +80,6 @@ holding_outputs o h = record o {
   blockstarts = record o.blockstarts { now = h.blockstarts };
 }
 
--- the outputs with other blocks
-abbrev pub with_blocks : Outputs → List Col → List ℕ → Outputs
-with_blocks o cols starts = outputs o.row2col o.hall cols starts
-
 -- all that is lent
 pub record Lent : Type 0 where
   pub inner : Work

@@ -3,7 +3,7 @@ ghost use Rattle.std.specs.Prelude.{◌≡◌, ◌≤◌, length};
 ghost use Rattle.sparse.specs.Buffers.{zeroed};
 ghost use Rattle.sparse.specs.Refusals.{one_short, Roomy};
 ghost use Rattle.triangular.specs.Outcome.{form_need, starts_need, entries_need, work_buffers, buffers};
-ghost use Rattle.triangular.specs.Outcome.{held_work, holding_work, held_outputs, holding_outputs, held, with_blocks, cleared};
+ghost use Rattle.triangular.specs.Outcome.{held_work, holding_work, held, cleared};
 
 use sparse::checks::any_short;
 use sparse::slices::clear;
@@ -98,11 +98,11 @@ pub fn clear_work(size: u32, entries: usize, work: &mut FormWork)
 }
 
 // The blocks' columns and starts become zero over their needs.
-pub fn clear_blocks(size: u32, outputs: &mut FormOutputs)
-    requires { (form_need size ≤ length outputs.old.blockcols.now) × (starts_need size ≤ length outputs.old.blockstarts.now) }
-    ensures { outputs.new ≡ holding_outputs outputs.old (with_blocks (held_outputs outputs.old)
-        (zeroed (form_need size) outputs.old.blockcols.now) (zeroed (starts_need size) outputs.old.blockstarts.now)) }
+pub fn clear_blocks(size: u32, blockcols: &mut [u32], blockstarts: &mut [u32])
+    requires { (form_need size ≤ length blockcols.old) × (starts_need size ≤ length blockstarts.old) }
+    ensures blockcols_after { blockcols.new ≡ zeroed (form_need size) blockcols.old }
+    ensures blockstarts_after { blockstarts.new ≡ zeroed (starts_need size) blockstarts.old }
 {
-    clear(outputs.blockcols, form_need(size));
-    clear_front(outputs.blockstarts, starts_need(size));
+    clear(blockcols, form_need(size));
+    clear_front(blockstarts, starts_need(size));
 }
