@@ -65,7 +65,8 @@ pub skips : (text : List ℕ) (from : ℕ) (r : Option ℕ)
     (λ i. (from ≤ i) × (i < length text) × (is_some (digit_of (get_or text i 0)) ≡ true) × NoDigits text from i)
     → r ≡ skipped from (drop from text)
 skips text from None h = ⊎_elim
-    (λ l. sym (skip_others text from (length text - from) (length text) (omega (arith, l)) (omega arith) h ∙ skip_end text (length text) (omega arith)))
+    (λ l. sym (skip_others text from (length text - from) (length text) (omega (arith, l)) (omega arith) h
+    ∙ skip_end text (length text) (omega arith)))
     (λ l. sym (skip_end text from l)) (cases_lt from (length text))
 skips text from (Some i) h =
     sym (skip_others text from (i - from) i (omega (arith, h.0)) (omega (arith, h.1)) h.3 ∙ skip_digit text i h.1 h.2)

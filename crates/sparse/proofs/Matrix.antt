@@ -16,7 +16,8 @@ use Rattle.graph.proofs.Lists.{mem_get_or, once_left}
 use Rattle.sparse.specs.Limits.{max_size, max_entries}
 use Rattle.sparse.specs.Matrix.{column, width, Shaped, RowsBelow}
 use Rattle.sparse.specs.declared.refusal.Refusal.TheVariants.{TooLarge, Misshapen, RowOutside, RepeatedRow, EmptyColumn}
-use Rattle.sparse.specs.Refusals.{passed, as_column, too_large, misshapen, row_outside, repeated_row, empty_column, falls_at, outside_at, repeats_at, empty_at}
+use Rattle.sparse.specs.Refusals.{passed, as_column, too_large, misshapen, row_outside, repeated_row, empty_column}
+use Rattle.sparse.specs.Refusals.{falls_at, outside_at, repeats_at, empty_at}
 use Rattle.sparse.proofs.Refusals.{if_passed, at_passed}
 use Rattle.sparse.proofs.Repeats.{is_repeat}
 
@@ -130,7 +131,11 @@ inside {size = size} {starts = starts} {rows = rows} s b = record { row_below = 
 pub some_row : (size : ℕ) (starts : List ℕ) → empty_column size starts ≡ passed → (c : Col) → c < size → 0 < width starts c
 unfolding empty_column
 some_row size starts e c l =
-    omega (arith, leb-false (get_or starts (c + 1) 0) (get_or starts c 0) (at_passed (λ c. EmptyColumn (as_column c)) (empty_at starts) size e c l))
+    omega (
+      arith,
+      leb-false (get_or starts (c + 1) 0) (get_or starts c 0)
+          (at_passed (λ c. EmptyColumn (as_column c)) (empty_at starts) size e c l),
+    )
 
 -- a list whose places hold different numbers has no repeat
 places_once : (l : List ℕ) → ((i j : ℕ) → i < j → j < length l → get_or l i 0 ≡ get_or l j 0 → ⊥) → Once l

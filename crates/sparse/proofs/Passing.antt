@@ -9,7 +9,8 @@ use Rattle.graph.proofs.Counting.{some_none}
 use Rattle.sparse.specs.Limits.{max_size, max_entries}
 use Rattle.sparse.specs.Matrix.{Shaped, RowsBelow, column, width}
 use Rattle.sparse.specs.declared.refusal.Refusal.TheVariants.{RowOutside, RepeatedRow, EmptyColumn}
-use Rattle.sparse.specs.Refusals.{passed, as_column, refused_if, too_large, misshapen, falls_at, Buffer, one_short, no_room, row_outside, outside_at}
+use Rattle.sparse.specs.Refusals.{passed, as_column, refused_if, too_large, misshapen, no_room, row_outside}
+use Rattle.sparse.specs.Refusals.{falls_at, Buffer, one_short, outside_at}
 use Rattle.sparse.specs.Refusals.{repeated_row, repeats_at, empty_column, empty_at}
 use Rattle.sparse.proofs.Refusals.{refused_none}
 use Rattle.sparse.proofs.Repeats.{Repeat, repeat_is}
@@ -70,4 +71,5 @@ repeats_pass {size} {starts} {rows} s once =
 pub columns_pass : (size : ℕ) (starts : List ℕ) → ((c : Col) → c < size → 0 < width starts c) → empty_column size starts ≡ passed
 unfolding empty_column
 columns_pass size starts some =
-    refused_none (λ c. EmptyColumn (as_column c)) (empty_at starts) size (λ c l. lt-leb (get_or starts (c + 1) 0) (get_or starts c 0) (omega (arith, some c l)))
+    refused_none (λ c. EmptyColumn (as_column c)) (empty_at starts) size
+    (λ c l. lt-leb (get_or starts (c + 1) 0) (get_or starts c 0) (omega (arith, some c l)))

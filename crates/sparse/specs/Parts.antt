@@ -1,6 +1,6 @@
 -- What the parts of the checks say to one another. No public contract cites these.
-use Rattle.std.specs.Prelude.{ℕ, zero, suc, ◌+◌, ◌-◌, ◌<◌, ◌≤◌, ◌≡◌, List, Bool, true, false, cond, ◌&&◌, ltb, leb, length, get_or, set}
-use Rattle.std.specs.Prelude.{Option, Some, None}
+use Rattle.std.specs.Prelude.{ℕ, zero, suc, ◌+◌, ◌-◌, ◌<◌, ◌≤◌, ◌≡◌, Bool, true, false, cond, ◌&&◌, ltb, leb}
+use Rattle.std.specs.Prelude.{List, length, get_or, set, Option, Some, None}
 use Rattle.graph.specs.Counting.{first}
 use Rattle.sparse.specs.Refusals.{repeats_at}
 

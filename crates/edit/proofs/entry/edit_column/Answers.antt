@@ -43,7 +43,8 @@ returns c =
     let tested = c.edit_tested-answer in
     let same = rw (mat.size, mat.rows) at tested.ensures.same_work in
     let gives = rw (mat.size, mat.starts, mat.rows) at tested.ensures.outputs_after in
-    let zero = ap held_work (rw c.edit_entries-entries.ensures at c.clear_work.ensures) ∙ same_cleared c.args.size entries l.inner (held_work tested.new.work) same in
+    let zero = ap held_work (rw c.edit_entries-entries.ensures at c.clear_work.ensures)
+    ∙ same_cleared c.args.size entries l.inner (held_work tested.new.work) same in
     let e = tested_exit _ _ _ _ _ l (held_work c.clear_work.new.work) (held_outputs tested.new.outputs) _
     (sym found ∙ ap checked c.in_ok-mat.was) zero gives in
     record { outcome = e.0; meaning = e.1; same_slices = search rules }

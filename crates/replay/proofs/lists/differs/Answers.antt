@@ -1,5 +1,6 @@
 -- `differs` meets its contract: the test of each number with its place is the test of the places.
-use Rattle.std.proofs.Common.{◌≡◌, ℕ, zero, suc, ◌+◌, List, [], ◌∷◌, Bool, true, false, ◌||◌, not, eqb, length, get_or, refl, sym, ap, ◌∙◌, arith, rules, tests}
+use Rattle.std.proofs.Common.{◌≡◌, ℕ, zero, suc, ◌+◌, List, [], ◌∷◌, Bool, true, false, ◌||◌, not, eqb}
+use Rattle.std.proofs.Common.{length, get_or, refl, sym, ap, ◌∙◌, arith, rules, tests}
 use Rattle.std.proofs.lemmas.Iterator.{YieldsList-from_slice}
 use Rattle.std.proofs.lemmas.Iterator.Consumers.{YieldsList-from_enumerate}
 use Rattle.std.proofs.lemmas.Iterator.Search.{any_from_yields_List}
@@ -35,6 +36,7 @@ returns c =
     let xs = c.args.buffer.now in
     let other : ℕ × ℕ → Bool = λ p. not (eqb p.1 (get_or c.args.list.now p.0 JUNK)) in
     let from_zero : (k : ℕ) → 0 + k ≡ k = λ k. omega arith in
-    any_from_yields_List other _ _ _ c.any.ensures.ran (YieldsList-from_enumerate {s = c.enumerate.result} (YieldsList-from_slice xs (ap (λ s. s.rest.now) c.enumerate.ensures.source ∙ c.iter.ensures.rest)) c.enumerate.ensures.count)
+    any_from_yields_List other _ _ _ c.any.ensures.ran (YieldsList-from_enumerate {s = c.enumerate.result}
+    (YieldsList-from_slice xs (ap (λ s. s.rest.now) c.enumerate.ensures.source ∙ c.iter.ensures.rest)) c.enumerate.ensures.count)
     (λ x b q k. search (rules, tests))
     ∙ some_place other 0 xs ∙ (λ i. some (λ k. other (from_zero k i, get_or xs k 0)) (length xs))

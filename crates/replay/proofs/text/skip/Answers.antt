@@ -9,4 +9,5 @@ pub returns-clause-value : goal.returns-clause-value
 returns-clause-value c =
     let text = c.args.text.now in
     skips text c.args.from c.find.result (first_from_Range _ _ _ _ (λ k. is_some (digit_of (get_or text k 0)) ≡ true)
-    (λ k. is_some (digit_of (get_or text k 0)) ≡ false) c.find.ensures.ran (λ x q k. search (rules, tests)) (λ x q k. search (rules, tests)))
+    (λ k. is_some (digit_of (get_or text k 0)) ≡ false) c.find.ensures.ran (λ x q k. search (rules, tests))
+    (λ x q k. search (rules, tests)))

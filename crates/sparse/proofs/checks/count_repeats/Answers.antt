@@ -12,7 +12,8 @@ loop-c-preserved c =
     let col = c.col_rows-rows.result.now in
     let same = c.loop-c.invariant.0 in
     let told = c.tally-again.ensures in
-    let below : RowsBelow col mat.mat.size = rw c.col_rows-rows.ensures (column_below mat.mat.shaped mat.below c.loop-c.c (omega arith)) in (
+    let below : RowsBelow col mat.mat.size =
+    rw c.col_rows-rows.ensures (column_below mat.mat.shaped mat.below c.loop-c.c (omega arith)) in (
       c.unmark.ensures ∙ ap (marked col 0 (length col)) told.marks_after
           ∙ unmark_mark col (length col) (length col) c.loop-c.marks (omega arith)
           (λ j a. rw same (c.requires.1 _ (below j a)))

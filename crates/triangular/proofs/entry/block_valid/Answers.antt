@@ -39,7 +39,8 @@ block_matched-count-requires-clause-roomy c =
     let entries = length c.args.mat.now.mat.rows.now in
     let w = held_work c.args.work.now in
     let same = c.match_valid-matched.ensures.same_work in
-    rw (c.unedited.ensures.0, c.unedited.ensures.1, entries_plain c.args.mat.now.mat.shaped) (kept_room c.args.mat.now.mat.size entries (held c.args.work.now c.args.outputs.now)
+    rw (c.unedited.ensures.0, c.unedited.ensures.1, entries_plain c.args.mat.now.mat.shaped)
+    (kept_room c.args.mat.now.mat.size entries (held c.args.work.now c.args.outputs.now)
     (matching_same {k = entries} w.finished w.col2row w.backstarts w.backrows same (search (rules, same.slices))) c.requires.roomy)
 
 pub returns-clause-outputs_after : goal.returns-clause-outputs_after

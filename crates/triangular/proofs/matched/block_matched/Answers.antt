@@ -42,7 +42,11 @@ cut_matched-requires-clause-cut_ready c =
     subst (λ x. CutReady c.args.mat.now.mat.size x c.args.blockstarts.now)
     (search (rules, c.finish_columns.ensures.same_from.finished.itself))
     (finished_ready c.requires.reversible.0.inside c.requires.reversible.0.permutes.below c.finish_columns.ensures.finished
-    (omega (arith, (work_room _ _ (held_work c.args.work.now) c.requires.roomy).finished, c.finish_columns.ensures.same_from.finished.same_length))
+    (omega (
+      arith,
+      (work_room _ _ (held_work c.args.work.now) c.requires.roomy).finished,
+      c.finish_columns.ensures.same_from.finished.same_length,
+    ))
     (omega (arith, c.requires.size_in_bounds.1)))
 
 pub returns-clause-holds_blocks : goal.returns-clause-holds_blocks
