@@ -75,11 +75,11 @@ pub fn cut_blocks(
     let mut blocks = 0u32;
     let mut count = 0u32;
     for i in (0..size).rev() {
-        let c: Column = get(finished, i);
+        let c = get::<u32, Column>(finished, i);
         let Some(end) = walk_new(&mat, row2col, c, SECOND_PASS, count, work) else {
             continue;
         };
-        put(blockstarts, blocks + 1, end);
+        put::<u32, u32>(blockstarts, blocks + 1, end);
         blocks += 1;
         count = end;
     }

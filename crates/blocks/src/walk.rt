@@ -26,7 +26,7 @@ impl<'a> WalkWork<'a> {
         requires { c.0 < length self.now.visited.now }
         ensures { result ≡ get_or self.now.visited.now c.0 0 }
     {
-        get(self.visited, c)
+        get::<Column, u32>(self.visited, c)
     }
 }
 
@@ -36,7 +36,7 @@ fn leave(c: Column, depth: u32, top: u32, finished: &mut [u32], count: u32) -> u
     ensures { Leaves c.0 depth top finished.old count finished.new result }
 {
     if depth == top {
-        put(finished, count, c);
+        put::<u32, Column>(finished, count, c);
         return count + 1;
     }
     count
@@ -66,20 +66,20 @@ pub fn walk(
     let mut e = at;
     let mut f = at;
     let mut depth = 1u32;
-    put(scol, 0, start);
+    put::<u32, Column>(scol, 0, start);
     while 0 < depth {
         let top = depth - 1;
-        let c: Column = get(scol, top);
+        let c = get::<u32, Column>(scol, top);
         let col = mat.col_rows(c);
-        let stamp: u32 = get(visited, c);
+        let stamp = get::<Column, u32>(visited, c);
         if stamp != mark {
-            put(visited, c, mark);
-            put(entered, e, c);
+            put::<Column, u32>(visited, c, mark);
+            put::<u32, Column>(entered, e, c);
             e += 1;
             depth = advance(col, row2col, visited, mark, top, 0, scol, sat);
             f = leave(c, depth, top, finished, f);
         } else {
-            let place: u32 = get(sat, top);
+            let place = get::<u32, u32>(sat, top);
             let next = place + 1;
             depth = advance(col, row2col, visited, mark, top, next, scol, sat);
             f = leave(c, depth, top, finished, f);

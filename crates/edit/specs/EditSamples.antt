@@ -121,3 +121,9 @@ edit_samples =
     ∷ cyclic_refused 1 (two 2 0) (three 2 2 1) (MismatchedRow (as_row 1))
     ∷ cyclic_refused 0 (0 ∷ []) (three 0 2 1) (MismatchedRow (as_row 0))
     ∷ []
+
+-- the number and the place of each sample's answer, in the same order
+abbrev pub edit_answers : List (ℕ × ℕ)
+edit_answers =
+    (0, 0) ∷ (0, 0) ∷ (9, 1) ∷ (0, 0) ∷ (9, 1) ∷ (1, 0) ∷ (2, 0) ∷ (5, 0) ∷ (3, 4) ∷ (4, 2) ∷ (13, 0)
+    ∷ (13, 0) ∷ (14, 1) ∷ (14, 2) ∷ (15, 2) ∷ (15, 1) ∷ (15, 0) ∷ []

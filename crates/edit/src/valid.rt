@@ -69,7 +69,7 @@ pub fn edit_valid(
     // What is only read has a name of its own, so that what it holds stays known to the proof.
     let col2row = &mut *work.col2row;
     let row2col = &mut *outputs.row2col;
-    let row: OriginalRow = get(col2row, edit.column);
+    let row = get::<Column, OriginalRow>(col2row, edit.column);
     let mut slices = SearchWork {
         visited: &mut *work.visited,
         cheap: &mut *work.cheap,

@@ -76,8 +76,8 @@ pub extern "C" fn dechvorim_edit_column<'a>(
         &mut work,
         &mut outputs,
     );
-    *count = answer.unwrap_or(0);
     let (number, at) = number_and_place(&answer);
     *place = at;
+    *count = answer.unwrap_or(0);
     number
 }

@@ -64,8 +64,8 @@ pub extern "C" fn dechvorim_find_block_diag_form(
         blockstarts,
     };
     let answer = triangular::find_block_diag_form(size, starts, rows, &mut work, &mut outputs);
-    *count = answer.unwrap_or(0);
     let (number, at) = number_and_place(&answer);
     *place = at;
+    *count = answer.unwrap_or(0);
     number
 }

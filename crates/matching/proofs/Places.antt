@@ -1,6 +1,8 @@
 -- What a scan has found of the places that it has passed, and what that says of a column's rows.
 use Rattle.std.proofs.Common.{ℕ, zero, suc, ◌+◌, ◌≤◌, ◌<◌, ◌≡◌, refl, sym, subst, ⊎_elim, Bool, true, false, List, [], ◌∷◌}
-use Rattle.std.proofs.Common.{eq-or-lt_of_le, not-suc-le-zero, le_of_suc-le-suc, arith, leb-true, leb-false, leb, length, get_or}
+use Rattle.std.proofs.Common.{max, eq-or-lt_of_le, not-suc-le-zero, le_of_suc-le-suc, arith, leb-true, leb-false, leb, length, get_or}
+use Rattle.std.proofs.Math.Nat.{max-le, le-max_left}
+use Rattle.std.proofs.lemmas.Bool.{cases_lt}
 use Rattle.graph.specs.Matchings.{Row, Col, partner}
 use Rattle.graph.proofs.Lists.{mem_get_or}
 use Rattle.graph.proofs.Search.{FirstFree, now, later, NoneFree}
@@ -44,10 +46,14 @@ pub stop_free : {n : ℕ} {rs : List Row} {from k e b : ℕ} {h₀ m₀ h m : Li
     → e ≡ get_or rs k 0 → b ≡ get_or m e 0 → n ≤ b → FreePlace n m₀ rs from k
 stop_free P ee eb l = record { before = P.passed; here = λ _. omega (arith, there P ee eb) }
 
--- behind the last row it has found none
-pub stop_none : {n : ℕ} {rs : List Row} {from k : ℕ} {h₀ m₀ h m : List ℕ} {hit₀ hit : Bool} → Passing n rs from h₀ m₀ hit₀ h m hit k
-    → length rs ≤ k → FreePlace n m₀ rs from (length rs)
-stop_none P l = record { before = λ j a b. P.passed j a (omega arith); here = λ i. absurd (omega arith) }
+-- behind the last row it has found none, and where it began further behind it does not go back
+pub stop_behind : {n : ℕ} {rs : List Row} {from k : ℕ} {h₀ m₀ h m : List ℕ} {hit₀ hit : Bool} → Passing n rs from h₀ m₀ hit₀ h m hit k
+    → length rs ≤ k → FreePlace n m₀ rs from (max (length rs) from)
+stop_behind {n} {rs} {from} {k} P l = record {
+  before = λ j a b. P.passed j a
+      (⊎_elim (λ h. h) (λ h. absurd (omega (arith, b, max-le {a = length rs} {b = from} {k = j} (omega (arith, h, l)) a))) (cases_lt j k));
+  here = λ i. absurd (omega (arith, i, le-max_left (length rs) from));
+}
 
 -- ---- what it says of a column's rows
 

@@ -68,8 +68,8 @@ pub fn mark_hall(size: u32, visited: &[u32], stamp: u32, hall: &mut [u32])
 {
     for c in 0..size {
         let col = Column(c);
-        let last: u32 = get(visited, col);
-        put(hall, col, u32::from(last == stamp));
+        let last = get::<Column, u32>(visited, col);
+        put::<Column, u32>(hall, col, u32::from(last == stamp));
     }
 }
 

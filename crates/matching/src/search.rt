@@ -24,8 +24,8 @@ fn col_at(col: &[u32], row2col: &[u32], k: u32) -> Column
     requires { (k < length col.now) × RowsBelow col.now (length row2col.now) }
     ensures { result.0 ≡ col_at row2col.now col.now k }
 {
-    let r: OriginalRow = get(col, k);
-    get(row2col, r)
+    let r = get::<u32, OriginalRow>(col, k);
+    get::<OriginalRow, Column>(row2col, r)
 }
 
 // The first place of a column's rows, from a place on, whose row's column is not visited, if there is one.
@@ -36,7 +36,7 @@ pub fn scan_next(col: &[u32], row2col: &[u32], visited: &[u32], mark: u32, from:
     ensures within { IfSome result (λ k. k < length col.now) }
 {
     for k in from..col.len() as u32 {
-        let stamp: u32 = get(visited, col_at(col, row2col, k));
+        let stamp = get::<Column, u32>(visited, col_at(col, row2col, k));
         if stamp != mark {
             return Some(k);
         }
@@ -66,8 +66,8 @@ pub fn advance(
     let Some(next) = scan_next(col, row2col, visited, mark, from) else {
         return top;
     };
-    put(sat, top, next);
-    put(scol, top + 1, col_at(col, row2col, next));
+    put::<u32, u32>(sat, top, next);
+    put::<u32, Column>(scol, top + 1, col_at(col, row2col, next));
     top + 2
 }
 
@@ -93,37 +93,37 @@ pub fn search(
     let size = mat.mat.size;
     let mut found = false;
     let mut depth = 1u32;
-    put(scol, 0, start);
+    put::<u32, Column>(scol, 0, start);
     'dfs_loop: while 0 < depth {
         let top = depth - 1;
-        let c: Column = get(scol, top);
+        let c = get::<u32, Column>(scol, top);
         let col = mat.col_rows(c);
-        let stamp: u32 = get(visited, c);
+        let stamp = get::<Column, u32>(visited, c);
         if stamp != mark {
-            put(visited, c, mark);
+            put::<Column, u32>(visited, c, mark);
             // A matched row stays matched, so the scan for a free one starts where this column's last scan stopped.
-            let from: u32 = get(cheap, c);
+            let from = get::<Column, u32>(cheap, c);
             let len = col.len() as u32;
             for k in from..len {
-                let r: OriginalRow = get(col, k);
-                let owner: Column = get(row2col, r);
+                let r = get::<u32, OriginalRow>(col, k);
+                let owner = get::<OriginalRow, Column>(row2col, r);
                 if size <= owner.0 {
-                    put(cheap, c, k);
-                    put(row2col, r, c);
+                    put::<Column, u32>(cheap, c, k);
+                    put::<OriginalRow, Column>(row2col, r, c);
                     found = true;
                     depth = top;
                     continue 'dfs_loop;
                 }
             }
-            put(cheap, c, len);
+            put::<Column, u32>(cheap, c, len.max(from));
             depth = advance(col, row2col, visited, mark, top, 0, scol, sat);
         } else if found {
-            let at: u32 = get(sat, top);
-            let row: OriginalRow = get(col, at);
-            put(row2col, row, c);
+            let at = get::<u32, u32>(sat, top);
+            let row = get::<u32, OriginalRow>(col, at);
+            put::<OriginalRow, Column>(row2col, row, c);
             depth = top;
         } else {
-            let at: u32 = get(sat, top);
+            let at = get::<u32, u32>(sat, top);
             depth = advance(col, row2col, visited, mark, top, at + 1, scol, sat);
         }
     }

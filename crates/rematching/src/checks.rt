@@ -41,17 +41,17 @@ pub fn check_replacement(size: u32, replacement: &[u32], marks: &mut [u32]) -> R
         if is_unfit(size, row, marks) {
             return Err(Refusal::UnfitRow(k as u32));
         }
-        put(marks, row, 1);
+        put::<OriginalRow, u32>(marks, row, 1);
     }
     Ok(())
 }
 
-// Whether a column has an entry in a row.
+// Whether a column has an entry in a row. It stops at the first: `contains` compares in groups, which costs more where columns are short.
 fn has_row(mat: &SparseMat, c: Column, row: OriginalRow) -> bool
     requires { c.0 < mat.now.size }
     ensures { result ≡ elem row.0 (columns mat.now c.0) }
 {
-    mat.col_rows(c).contains(&row.0)
+    mat.col_rows(c).iter().any(|r| *r == row.0)
 }
 
 // Whether a row's column is not below n, has a row already, or lacks this one.
@@ -73,11 +73,11 @@ pub fn check_matching(mat: &SparseMat, row2col: &[u32], col2row: &mut [u32]) -> 
     fill(col2row, mat.size, NONE);
     for r in 0..mat.size {
         let row = OriginalRow(r);
-        let c: Column = get(row2col, row);
+        let c = get::<OriginalRow, Column>(row2col, row);
         if is_mismatched(mat, col2row, c, row) {
             return Err(Refusal::MismatchedRow(row));
         }
-        put(col2row, c, row);
+        put::<Column, OriginalRow>(col2row, c, row);
     }
     Ok(())
 }

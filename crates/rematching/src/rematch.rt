@@ -36,10 +36,10 @@ pub fn rematch(
         mat: mat.mat,
         edit: Some(*edit),
     };
-    put(row2col, row, None::<Column>);
+    put::<OriginalRow, Option<Column>>(row2col, row, None);
     if search(&edited, c, c.0 + 1, work, row2col) {
         return None;
     }
-    put(row2col, row, c);
+    put::<OriginalRow, Column>(row2col, row, c);
     Some(c)
 }

@@ -1,7 +1,6 @@
 -- Parts of lists, and what a lent buffer is to hold.
 use Rattle.std.specs.Prelude.{ℕ, ◌≤◌, ◌-◌, List, [], Bool, cond, not, ltb, eqb, length, get_or, take, drop}
 use Rattle.replay.specs.declared.lists.Numbers.{Numbers}
-use Rattle.replay.specs.declared.lists.TheConstants.{JUNK}
 
 -- of the stored numbers no more are left than before
 abbrev pub Fewer : Numbers → Numbers → Type 0
@@ -11,6 +10,10 @@ Fewer before after = length after.rest.now ≤ length before.rest.now
 unfoldable pub part_of : List ℕ → ℕ → ℕ → List ℕ
 part_of list from count = cond (ltb (length list) from) [] (cond (ltb (length list - from) count) [] (take count (drop from list)))
 
--- the buffer does not hold at place i what the list has there, or, past the list, what it held before the call
+-- what a buffer holds before a call
+abbrev pub junk : ℕ
+junk = 3735928559
+
+-- the buffer does not hold at place i what the list has there, or, past the list, junk
 abbrev pub differs_at : List ℕ → List ℕ → ℕ → Bool
-differs_at buffer list i = not (eqb (get_or buffer i 0) (get_or list i JUNK))
+differs_at buffer list i = not (eqb (get_or buffer i 0) (get_or list i junk))

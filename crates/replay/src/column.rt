@@ -1,11 +1,13 @@
 // Cases of kind 4, `edit::edit_column`: behind the rows stand the edited column, how many rows take the place of its own, these rows
 // and the old matching. What follows is as in kind 3. Of the refusals with number 1, the one of an edit that makes a matrix too large
 // clears the workspace, and is not stored: its line would have a million rows. So `Answer::work` holds of every stored edit.
+ghost use Rattle.std.specs.Prelude.{◌≤◌, length};
+
 use super::answer::Outcome;
 use super::case::Case;
 use super::form::Form;
 use super::lent::{Lent, lend};
-use super::lists::{Numbers, holding};
+use super::lists::{JUNK, LENT_ENTRIES, Numbers, holding};
 use super::pattern::{MAX_SIZE, Pattern};
 use sparse::Column;
 
@@ -18,6 +20,7 @@ pub struct Edit<'a> {
     replacement: &'a [u32],
     old_matching: &'a [u32],
     form: Form<'a>,
+    ghost few: { length replacement.now ≤ 64 },
 }
 
 impl<'a> Edit<'a> {
@@ -50,7 +53,8 @@ impl<'a> Case<'a> for Edit<'a> {
         let pattern = &self.form.matching.pattern;
         let mut lent = Lent::junk();
         lent.row2col = holding(self.old_matching);
-        let (mut work, mut outputs) = lend!(lent);
+        let mut backrows = [JUNK; LENT_ENTRIES];
+        let (mut work, mut outputs) = lend!(lent, backrows);
         let answer = edit::edit_column(
             pattern.size,
             pattern.starts,
@@ -62,6 +66,7 @@ impl<'a> Case<'a> for Edit<'a> {
         );
         // Backrows has room for the entries and the rows of one more column.
         let back = pattern.rows.len() + pattern.columns();
-        self.form.is_answered(answer, &lent, back, self.left())
+        self.form
+            .is_answered(answer, &lent, &backrows, back, self.left())
     }
 }

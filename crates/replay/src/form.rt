@@ -7,7 +7,7 @@ use super::answer::{Outcome, with_count};
 use super::case::Case;
 use super::diagonal::Diagonal;
 use super::lent::{Lent, lend};
-use super::lists::{Numbers, any_differs, differs, zeros};
+use super::lists::{JUNK, LENT_ENTRIES, Numbers, any_differs, differs, zeros};
 use super::pattern::{MAX_ENTRIES, MAX_SIZE, Pattern};
 use sparse::Refusal;
 
@@ -48,6 +48,7 @@ impl<'a> Form<'a> {
         &self,
         answer: Result<u32, Refusal>,
         lent: &Lent,
+        backrows: &[u32],
         back: usize,
         row2col: &[u32],
     ) -> bool
@@ -71,7 +72,7 @@ impl<'a> Form<'a> {
                 work,
             )
             && !differs(&lent.backstarts, stored.work(size + 1))
-            && !differs(&lent.backrows, stored.work(back))
+            && !differs(backrows, stored.work(back))
             && !differs(&lent.row2col, row2col)
             && !differs(&lent.hall, self.matching.hall)
             && !differs(&lent.blockcols, self.blocks.columns)
@@ -103,7 +104,8 @@ impl<'a> Case<'a> for Form<'a> {
     fn agrees(&self) -> bool {
         let pattern = &self.matching.pattern;
         let mut lent = Lent::junk();
-        let (mut work, mut outputs) = lend!(lent);
+        let mut backrows = [JUNK; LENT_ENTRIES];
+        let (mut work, mut outputs) = lend!(lent, backrows);
         let answer = triangular::find_block_diag_form(
             pattern.size,
             pattern.starts,
@@ -111,6 +113,12 @@ impl<'a> Case<'a> for Form<'a> {
             &mut work,
             &mut outputs,
         );
-        self.is_answered(answer, &lent, pattern.rows.len(), self.matching.row2col)
+        self.is_answered(
+            answer,
+            &lent,
+            &backrows,
+            pattern.rows.len(),
+            self.matching.row2col,
+        )
     }
 }

@@ -1,5 +1,5 @@
-// The buffers that a call of kind 3 or 4 is lent.
-use super::lists::{JUNK, LENT, LENT_ENTRIES};
+// The buffers that a call of kind 3 or 4 is lent, but for backrows, which is many times as long: a struct is copied to where it is built.
+use super::lists::{JUNK, LENT};
 
 #[derive(Drop)]
 pub struct Lent {
@@ -8,7 +8,6 @@ pub struct Lent {
     pub finished: [u32; LENT],
     pub col2row: [u32; LENT],
     pub backstarts: [u32; LENT],
-    pub backrows: [u32; LENT_ENTRIES],
     pub scol: [u32; LENT],
     pub sat: [u32; LENT],
     pub row2col: [u32; LENT],
@@ -25,7 +24,6 @@ impl Lent {
             finished: [JUNK; LENT],
             col2row: [JUNK; LENT],
             backstarts: [JUNK; LENT],
-            backrows: [JUNK; LENT_ENTRIES],
             scol: [JUNK; LENT],
             sat: [JUNK; LENT],
             row2col: [JUNK; LENT],
@@ -38,7 +36,7 @@ impl Lent {
 
 // The buffers as a call takes them: its workspace, and what it answers in.
 macro_rules! lend {
-    ($lent:ident) => {
+    ($lent:ident, $backrows:ident) => {
         (
             triangular::FormWork {
                 visited: &mut $lent.visited,
@@ -46,7 +44,7 @@ macro_rules! lend {
                 finished: &mut $lent.finished,
                 col2row: &mut $lent.col2row,
                 backstarts: &mut $lent.backstarts,
-                backrows: &mut $lent.backrows,
+                backrows: &mut $backrows,
                 scol: &mut $lent.scol,
                 sat: &mut $lent.sat,
             },

@@ -1,7 +1,6 @@
 // What a case of every kind begins with: size, entries, the starts, the rows.
 ghost use Rattle.std.specs.Prelude.{◌≡◌, ◌≤◌, length};
 ghost use Rattle.replay.specs.Lists.{Fewer};
-ghost use Rattle.replay.specs.declared.pattern.TheConstants.{MAX_SIZE, MAX_ENTRIES};
 
 use super::lists::Numbers;
 
@@ -11,12 +10,12 @@ pub const MAX_SIZE: u32 = 64;
 pub const MAX_ENTRIES: u32 = 4096;
 
 // A pattern within the program's limits.
-#[derive(Drop)]
+#[derive(Clone, Copy)]
 pub struct Pattern<'a> {
     pub size: u32,
     pub starts: &'a [u32],
     pub rows: &'a [u32],
-    ghost small: { (size ≤ MAX_SIZE) × (length rows.now ≤ MAX_ENTRIES) },
+    ghost small: { (size ≤ 64) × (length rows.now ≤ 4096) },
 }
 
 impl<'a> Pattern<'a> {

@@ -1,8 +1,8 @@
 -- That 5 comes before 3; what 1, 2, 5 and 3 let through, and that they let it through.
-use Rattle.std.proofs.Common.{ℕ, ◌≤◌, ◌≡◌, sym, ◌∙◌, ⊎_elim, List, [], ◌∷◌, true, arith, Err}
+use Rattle.std.proofs.Common.{ℕ, ◌≤◌, ◌≡◌, sym, ap, ◌∙◌, ⊎_elim, List, [], ◌∷◌, true, arith, Err}
 use Rattle.sparse.specs.Matrix.{Shaped, RowsBelow}
 use Rattle.sparse.specs.declared.refusal.Refusal.TheVariants.{TooLarge, Misshapen, RowOutside, RepeatedRow, NoRoom}
-use Rattle.sparse.specs.Refusals.{passed, number, refused_if, first_refusal, Buffer, one_short, no_room, Roomy, early}
+use Rattle.sparse.specs.Refusals.{passed, number, number_of, place_of, refused_if, first_refusal, Buffer, one_short, no_room, Roomy, early}
 use Rattle.sparse.specs.Refusals.{too_large, misshapen, row_outside, repeated_row}
 use Rattle.sparse.specs.declared.refusal.Refusal.{Refusal}
 use Rattle.sparse.proofs.Refusals.{first_passed, first_last, head_passed, tail_passed, which, number_if, number_at}
@@ -10,11 +10,16 @@ use Rattle.sparse.proofs.Room.{room_head, room_tail}
 use Rattle.sparse.proofs.Matrix.{shaped, rows_below}
 use Rattle.sparse.proofs.Passing.{size_passes, shape_passes, room_none, room_more, rows_pass}
 
--- where 1 and 2 pass and a buffer is short the refusal is 5, whatever the rows are: so 5 comes before 3
+-- where 1 and 2 pass and a buffer is short the refusal is 5 at 0, whatever the rows are: so 5 comes before 3
 pub room_first : (size : ℕ) (starts rows : List ℕ) (buffers : List Buffer) → too_large size rows ≡ passed
-    → misshapen size starts rows ≡ passed → one_short buffers ≡ true → first_refusal (early size starts rows buffers) ≡ Err NoRoom
+    → misshapen size starts rows ≡ passed → one_short buffers ≡ true
+    → (first_refusal (early size starts rows buffers) ≡ Err NoRoom)
+    × (number_of (first_refusal (early size starts rows buffers)) ≡ 5)
+    × (place_of (first_refusal (early size starts rows buffers)) ≡ 0)
 unfolding first_refusal refused_if no_room early
-room_first size starts rows buffers p q e = rw (p, q, e)
+room_first size starts rows buffers p q e =
+    let first : first_refusal (early size starts rows buffers) ≡ Err NoRoom = rw (p, q, e) in
+    (first, ap number_of first, ap place_of first)
 
 -- buffers that pass are as long as their needs
 pub roomy : (bs : List Buffer) → no_room bs ≡ passed → Roomy bs

@@ -11,3 +11,4 @@ pub mod Rises
 pub mod Passing
 pub mod Early
 pub mod Inverses
+pub mod Table

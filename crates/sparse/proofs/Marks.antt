@@ -1,6 +1,6 @@
 -- Marks at the rows of a column, and their removal.
-use Rattle.std.proofs.Common.{ℕ, zero, suc, ◌+◌, ◌<◌, ◌≤◌, ◌≡◌, refl, sym, ap, ◌∙◌, List, ◌⊎◌, inl, inr, arith, length, get_or, set}
-use Rattle.std.proofs.Common.{add-one, length-set, get_or-set_same, get_or-set_other, ext_get_or}
+use Rattle.std.proofs.Common.{ℕ, zero, suc, ◌+◌, ◌<◌, ◌≤◌, ◌≡◌, refl, sym, ap, ◌∙◌, List, ◌⊎◌, inl, inr, arith, length, get_or, set, take}
+use Rattle.std.proofs.Common.{add-one, get_or-take, length-take-le, length-set, get_or-set_same, get_or-set_other, ext_get_or}
 use native.Mathlib.Decide.{ℕ_discrete}
 use Rattle.sparse.specs.Parts.{marked}
 
@@ -18,6 +18,12 @@ pub length_marked : (rows : List ℕ) (v k : ℕ) (m : List ℕ) → length (mar
 unfolding marked
 length_marked rows v zero m = refl
 length_marked rows v (suc k) m = length-set (marked rows v k m) (get_or rows k 0) v ∙ length_marked rows v k m
+
+-- the first k rows suffice for the marks at them
+pub marked_take : (rows : List ℕ) (v k j : ℕ) (m : List ℕ) → j ≤ k → marked (take k rows) v j m ≡ marked rows v j m
+unfolding marked
+marked_take rows v k zero m l = refl
+marked_take rows v k (suc j) m l = rw (marked_take rows v k j m (omega (arith, l)), get_or-take k rows j 0 (omega (arith, l))) refl
 
 -- r is among the first k rows
 abbrev pub Listed : List ℕ → ℕ → ℕ → Type 0
@@ -82,3 +88,10 @@ unmark_mark rows k n m l z = ext_get_or 0 both m long (λ r h. go r (rw long at 
         marked_in rows 0 (marked rows 1 k m) n r (rw (length_marked rows 1 k m) h) s
         ∙ sym (ap (λ (x : ℕ). get_or m x 0) (sym s.2) ∙ z s.0 s.1)
     go r h (inr u) = marked_out rows 0 (marked rows 1 k m) n r u ∙ marked_out rows 1 m k r (λ j b. u j (omega arith))
+
+-- marks that are taken away again, the first k rows' alone, leave what was there
+pub unmark_taken : (rows : List ℕ) (k : ℕ) (m : List ℕ) → k ≤ length rows → ((j : ℕ) → j < length rows → get_or m (get_or rows j 0) 0 ≡ 0)
+    → marked (take k rows) 0 (length (take k rows)) (marked rows 1 k m) ≡ m
+unmark_taken rows k m l z =
+    rw (length-take-le k rows l)
+    (marked_take rows 0 k k (marked rows 1 k m) (omega arith) ∙ unmark_mark rows k k m (omega arith) (λ j b. z j (omega (arith, b, l))))

@@ -4,3 +4,4 @@ pub mod Matrix
 pub mod Refusals
 pub mod Parts
 pub mod Columns
+pub mod Table

@@ -108,12 +108,12 @@ pub fn any_short(buffers: &[(usize, usize)]) -> bool
 }
 
 // Refusals 1, 2, 5 and 3, which leave every buffer as it is; the caller has tested its buffers. What they let through is a matrix.
-pub fn check_early<'a>(
+pub fn check_early<'s, 'a>(
     size: u32,
-    starts: &'a [u32],
+    starts: &'s [u32],
     rows: &'a [u32],
     short: bool,
-) -> Result<SquareMat<'a>, Refusal>
+) -> Result<SquareMat<'s, 'a>, Refusal>
     ensures value { (buffers : List Buffer) → short ≡ one_short buffers
         → checked result ≡ first_refusal (early size starts.now rows.now buffers) }
     ensures size { IfOk result (λ m. m.mat.size ≡ size) }
@@ -139,7 +139,7 @@ fn mark(col: &[u32], marks: &mut [u32]) -> Option<usize>
         if get::<OriginalRow, u32>(marks, row) != 0 {
             return Some(k);
         }
-        put(marks, row, 1);
+        put::<OriginalRow, u32>(marks, row, 1);
     }
     None
 }
@@ -150,7 +150,7 @@ fn unmark(col: &[u32], marks: &mut [u32])
     ensures { marks.new ≡ marked col.now 0 (length col.now) marks.old }
 {
     for row in col {
-        put(marks, OriginalRow(*row), 0);
+        put::<OriginalRow, u32>(marks, OriginalRow(*row), 0);
     }
 }
 
@@ -161,7 +161,7 @@ pub fn find_repeat(col: &[u32], marks: &mut [u32]) -> Option<usize>
     ensures marks_unchanged { marks.new ≡ marks.old }
 {
     let place = mark(col, marks);
-    unmark(col, marks);
+    unmark(&col[..place.unwrap_or(col.len())], marks);
     place
 }
 
@@ -177,7 +177,7 @@ fn tally(col: &[u32], marks: &mut [u32]) -> u32
     for row in col {
         let row = OriginalRow(*row);
         seen += get::<OriginalRow, u32>(marks, row);
-        put(marks, row, 1);
+        put::<OriginalRow, u32>(marks, row, 1);
     }
     seen
 }
@@ -189,9 +189,11 @@ fn count_repeats(mat: &SquareMat, marks: &mut [u32]) -> u32
         (length mat.now.mat.rows.now) result }
     ensures marks_unchanged { marks.new ≡ marks.old }
 {
+    // A name of its own for what the loop reads, so that it does not go through a reference.
+    let mat = mat.mat;
     let mut again = 0u32;
-    for c in 0..mat.mat.size {
-        let rows = mat.mat.col_rows(Column(c));
+    for c in 0..mat.size {
+        let rows = mat.col_rows(Column(c));
         again += tally(rows, marks);
         unmark(rows, marks);
     }
@@ -208,7 +210,7 @@ fn first_repeat(mat: &SquareMat, marks: &mut [u32]) -> Option<u32>
     for c in 0..mat.mat.size {
         let c = Column(c);
         if let Some(k) = find_repeat(mat.mat.col_rows(c), marks) {
-            let lo: u32 = get(mat.mat.starts, c);
+            let lo = get::<Column, u32>(mat.mat.starts, c);
             return Some(lo + k as u32);
         }
     }

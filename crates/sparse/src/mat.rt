@@ -5,19 +5,20 @@ ghost use Rattle.sparse.specs.Matrix.{RowsBelow, Shaped, width};
 use super::Column;
 use super::slices::get;
 
-// Columns of rows, whose starts divide them as refusals 1 and 2 demand.
+// Columns of rows, whose starts divide them as refusals 1 and 2 demand. The starts are lent for a time of their own: a column of rows
+// does not hold them.
 #[derive(Clone, Copy)]
-pub struct SparseMat<'a> {
+pub struct SparseMat<'s, 'a> {
     pub size: u32,
-    pub starts: &'a [u32],
+    pub starts: &'s [u32],
     pub rows: &'a [u32],
     pub ghost shaped: { Shaped size starts.now rows.now },
 }
 
 // One whose rows are below n too, as refusal 3 demands.
 #[derive(Clone, Copy)]
-pub struct SquareMat<'a> {
-    pub mat: SparseMat<'a>,
+pub struct SquareMat<'s, 'a> {
+    pub mat: SparseMat<'s, 'a>,
     pub ghost below: { RowsBelow mat.rows.now mat.size },
 }
 
@@ -30,12 +31,12 @@ pub struct Edit<'a> {
 
 // A matrix with one column replaced, or none.
 #[derive(Clone, Copy)]
-pub struct EditedMat<'a> {
-    pub mat: SparseMat<'a>,
+pub struct EditedMat<'s, 'a> {
+    pub mat: SparseMat<'s, 'a>,
     pub edit: Option<Edit<'a>>,
 }
 
-impl<'a> SparseMat<'a> {
+impl<'s, 'a> SparseMat<'s, 'a> {
     ghost use Rattle.sparse.specs.Columns.{columns};
 
     // How many rows a column has.
@@ -43,8 +44,8 @@ impl<'a> SparseMat<'a> {
         requires { c.0 < self.now.size }
         ensures { result ≡ width self.now.starts.now c.0 }
     {
-        let lo: u32 = get(self.starts, c);
-        let hi: u32 = get(self.starts, c.0 + 1);
+        let lo = get::<Column, u32>(self.starts, c);
+        let hi = get::<u32, u32>(self.starts, c.0 + 1);
         hi - lo
     }
 
@@ -53,15 +54,15 @@ impl<'a> SparseMat<'a> {
         requires { c.0 < self.now.size }
         ensures { result.now ≡ columns self.now c.0 }
     {
-        let lo: u32 = get(self.starts, c);
-        let hi: u32 = get(self.starts, c.0 + 1);
+        let lo = get::<Column, u32>(self.starts, c);
+        let hi = get::<u32, u32>(self.starts, c.0 + 1);
         &self.rows[lo as usize..hi as usize]
     }
 }
 
-impl<'a> SparseMat<'a> {
+impl<'s, 'a> SparseMat<'s, 'a> {
     // The matrix with no column replaced.
-    pub fn unedited(self) -> EditedMat<'a>
+    pub fn unedited(self) -> EditedMat<'s, 'a>
         ensures { (result.mat ≡ self.entry) × (result.edit ≡ None) }
     {
         EditedMat {
@@ -71,7 +72,7 @@ impl<'a> SparseMat<'a> {
     }
 }
 
-impl<'a> EditedMat<'a> {
+impl<'s, 'a> EditedMat<'s, 'a> {
     ghost use Rattle.sparse.specs.Columns.{edited_columns};
 
     // The rows of a column: a part of the matrix's rows, or the replacement where it is the edited column.

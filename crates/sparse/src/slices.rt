@@ -126,7 +126,7 @@ pub fn invert<K: Kind, V: Kind>(size: u32, forth: &[u32], back: &mut [u32])
 {
     for i in 0..size {
         let k = K::of(i);
-        let v: V = get(forth, k);
-        put(back, v, k);
+        let v = get::<K, V>(forth, k);
+        put::<V, K>(back, v, k);
     }
 }

@@ -83,3 +83,8 @@ form_samples =
     ∷ sample 3 (0 ∷ 2 ∷ 3 ∷ 5 ∷ []) (0 ∷ 2 ∷ 3 ∷ 0 ∷ 4 ∷ []) wide (ended (Err (RowOutside 2)) wide)
     ∷ sample 3 (0 ∷ 0 ∷ 3 ∷ 5 ∷ []) (0 ∷ 1 ∷ 0 ∷ 1 ∷ 1 ∷ []) wide (ended (Err (RepeatedRow 2)) (lent clean wide.outer))
     ∷ []
+
+-- the number and the place of each sample's answer, in the same order
+abbrev pub form_answers : List (ℕ × ℕ)
+form_answers =
+    (0, 0) ∷ (9, 0) ∷ (0, 0) ∷ (0, 0) ∷ (9, 1) ∷ (0, 0) ∷ (0, 0) ∷ (1, 0) ∷ (2, 0) ∷ (5, 0) ∷ (3, 2) ∷ (4, 2) ∷ []

@@ -41,10 +41,10 @@ pub fn block_valid(
         sat: &mut *work.sat,
     };
     let matched = match_valid(mat, &mut slices, row2col, outputs.hall);
-    if let Err(refusal) = matched {
+    let Ok(()) = matched else {
         clear_blocks(mat.mat.size, outputs.blockcols, outputs.blockstarts);
-        return Err(refusal);
-    }
+        return matched.map(|()| 0);
+    };
     let count = block_matched(
         &mat.mat.unedited(),
         row2col,

@@ -39,7 +39,7 @@ fn cut_matched(
         work.old.entered.now blockstarts.old work.new.entered.now blockstarts.new result }
     ensures same_from { SameFrom size work.old work.new }
 {
-    let end: u32 = get(backstarts, size);
+    let end = get::<u32, u32>(backstarts, size);
     let reversed = SparseMat {
         size,
         starts: &backstarts[..size as usize + 1],

@@ -76,7 +76,7 @@ pub advance-depth-requires : goal.advance-depth-requires
 advance-depth-requires c =
     let R = scan_ready (arm_none c.dfs_loop.invariant c.dfs_loop-test.true c.get-c.ensures c.col_rows-col.ensures
     (λ e. c.if-stamp-mark.true (c.get-stamp.ensures ∙ e)) c.loop-k.invariant c.get-from.ensures c.loop-k-test.false
-    c.put-then-stamp-mark.ensures c.put-then-stamp-mark-2.ensures) c.get-c.ensures c.col_rows-col.ensures
+    c.put-then-stamp-mark.ensures (rw c.max.ensures at c.put-then-stamp-mark-2.ensures)) c.get-c.ensures c.col_rows-col.ensures
     c.args.mat.now.mat.shaped.small c.requires.short in
     record { col_len_bound = R.short; by_index = R.cols; top_lt_max_size = R.room }
 
@@ -86,13 +86,13 @@ dfs_loop-smaller-then-stamp-mark c =
     (λ e. c.if-stamp-mark.true (c.get-stamp.ensures ∙ e)) c.put-then-stamp-mark.ensures
     (arm_none c.dfs_loop.invariant c.dfs_loop-test.true c.get-c.ensures c.col_rows-col.ensures
     (λ e. c.if-stamp-mark.true (c.get-stamp.ensures ∙ e)) c.loop-k.invariant c.get-from.ensures c.loop-k-test.false
-    c.put-then-stamp-mark.ensures c.put-then-stamp-mark-2.ensures) c.advance-depth.ensures
+    c.put-then-stamp-mark.ensures (rw c.max.ensures at c.put-then-stamp-mark-2.ensures)) c.advance-depth.ensures
 
 pub dfs_loop-preserved-then-stamp-mark : goal.dfs_loop-preserved-then-stamp-mark
 dfs_loop-preserved-then-stamp-mark c =
     arm_on (arm_none c.dfs_loop.invariant c.dfs_loop-test.true c.get-c.ensures c.col_rows-col.ensures
     (λ e. c.if-stamp-mark.true (c.get-stamp.ensures ∙ e)) c.loop-k.invariant c.get-from.ensures c.loop-k-test.false
-    c.put-then-stamp-mark.ensures c.put-then-stamp-mark-2.ensures) c.get-c.ensures c.col_rows-col.ensures
+    c.put-then-stamp-mark.ensures (rw c.max.ensures at c.put-then-stamp-mark-2.ensures)) c.get-c.ensures c.col_rows-col.ensures
     c.advance-depth.ensures
 
 pub get-at-requires : goal.get-at-requires

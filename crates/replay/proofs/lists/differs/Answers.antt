@@ -1,42 +1,38 @@
--- `differs` meets its contract: the test of each number with its place is the test of the places.
-use Rattle.std.proofs.Common.{◌≡◌, ℕ, zero, suc, ◌+◌, List, [], ◌∷◌, Bool, true, false, ◌||◌, not, eqb}
-use Rattle.std.proofs.Common.{length, get_or, refl, sym, ap, ◌∙◌, arith, rules, tests}
-use Rattle.std.proofs.lemmas.Iterator.{YieldsList-from_slice}
-use Rattle.std.proofs.lemmas.Iterator.Consumers.{YieldsList-from_enumerate}
-use Rattle.std.proofs.lemmas.Iterator.Search.{any_from_yields_List}
-use Rattle.std.specs.List.{list_any, enumerate_from}
-use Rattle.graph.specs.Counting.{some}
-use Rattle.replay.specs.declared.lists.TheConstants.{JUNK}
+-- `differs` meets its contract: below the list's end the buffer is held against the list, behind it against junk.
+use Rattle.std.proofs.Common.{ℕ, ◌+◌, ◌≡◌, ◌≤◌, ◌<◌, min, sym, length, ⊎_elim, arith}
+use Rattle.std.proofs.Math.Nat.{min-le_right, le-min}
+use Rattle.std.proofs.lemmas.Bool.{cases_lt}
+use Rattle.std.proofs.lemmas.List.{get_or_default, get_or_past}
+use Rattle.sparse.proofs.Search.{some_zero, some_next}
+use Rattle.replay.specs.Lists.{junk, differs_at}
 use Rattle.replay.proofs.lists.differs.Goals as goal
 
-or_other_first : (a b c : Bool) → a || (b || c) ≡ b || (a || c)
-or_other_first false b c = refl
-or_other_first true true c = refl
-or_other_first true false c = refl
+-- a place of the buffer that is not in the part it shares with the list is behind the list
+past_shared : (long short shared i : ℕ) → shared ≡ min long short → shared ≤ i → i < long → short ≤ i
+past_shared long short shared i e l h =
+    ⊎_elim (λ k. absurd (omega (arith, le-min {k = i + 1} {a = long} {b = short} (omega (arith, h)) (omega (arith, k)), e, l))) (λ k. k)
+    (cases_lt i short)
 
-some_front : (p : ℕ → Bool) (n : ℕ) → some p (suc n) ≡ p 0 || some (λ k. p (suc k)) n
-unfolding some
-some_front p zero = refl
-some_front p (suc n) = ap (λ b. p (suc n) || b) (some_front p n) ∙ or_other_first (p (suc n)) (p 0) (some (λ k. p (suc k)) n)
+pub loop-i-init : goal.loop-i-init
+loop-i-init c = sym (some_zero (differs_at c.args.buffer.now c.args.list.now))
 
--- a search of the numbers with their places is one of the places
-some_place : (q : ℕ × ℕ → Bool) (n : ℕ) (xs : List ℕ)
-    → list_any q (enumerate_from n xs) ≡ some (λ k. q (n + k, get_or xs k 0)) (length xs)
-unfolding some
-some_place q n [] = refl
-some_place q n (x ∷ xs) =
-    let here : n ≡ n + 0 = omega arith in
-    let on : (k : ℕ) → n + 1 + k ≡ n + suc k = λ k. omega arith in
-    ap (λ b. q (n, x) || b) (some_place q (n + 1) xs ∙ (λ i. some (λ k. q (on k i, get_or xs k 0)) (length xs)))
-    ∙ ap {B = Bool} (λ m. q (m, x) || some (λ k. q (n + suc k, get_or xs k 0)) (length xs)) here
-    ∙ sym (some_front (λ k. q (n + k, get_or (x ∷ xs) k 0)) (length xs))
+pub loop-i-preserved : goal.loop-i-preserved
+loop-i-preserved c =
+    let buffer = c.args.buffer.now in
+    let list = c.args.list.now in
+    let i = c.loop-i.i in
+    let low : i < length list = omega (arith, c.loop-i-test.true, c.min-shared.ensures, min-le_right (length buffer) (length list)) in
+    rw (get_or_default list i 0 junk low, c.loop-i.invariant) (some_next (differs_at buffer list) i)
 
-pub returns : goal.returns
-returns c =
-    let xs = c.args.buffer.now in
-    let other : ℕ × ℕ → Bool = λ p. not (eqb p.1 (get_or c.args.list.now p.0 JUNK)) in
-    let from_zero : (k : ℕ) → 0 + k ≡ k = λ k. omega arith in
-    any_from_yields_List other _ _ _ c.any.ensures.ran (YieldsList-from_enumerate {s = c.enumerate.result}
-    (YieldsList-from_slice xs (ap (λ s. s.rest.now) c.enumerate.ensures.source ∙ c.iter.ensures.rest)) c.enumerate.ensures.count)
-    (λ x b q k. search (rules, tests))
-    ∙ some_place other 0 xs ∙ (λ i. some (λ k. other (from_zero k i, get_or xs k 0)) (length xs))
+pub loop-i-2-init : goal.loop-i-2-init
+loop-i-2-init c =
+    let end : c.loop-i.i ≡ c.min-shared.result = omega (arith, c.loop-i-test.false, c.loop-i.auto.i-end) in
+    rw (sym end) c.loop-i.invariant
+
+pub loop-i-2-preserved : goal.loop-i-2-preserved
+loop-i-2-preserved c =
+    let buffer = c.args.buffer.now in
+    let list = c.args.list.now in
+    let i = c.loop-i-2.i in
+    let past = past_shared (length buffer) (length list) c.min-shared.result i c.min-shared.ensures (omega arith) (omega arith) in
+    rw c.loop-i-2.invariant (rw (get_or_past list i junk past) at (some_next (differs_at buffer list) i))
