@@ -51,7 +51,7 @@ fn has_row(mat: &SparseMat, c: Column, row: OriginalRow) -> bool
     requires { c.0 < mat.now.size }
     ensures { result ≡ elem row.0 (columns mat.now c.0) }
 {
-    mat.col_rows(c).iter().any(|r| *r == row.0)
+    mat.col_rows(c).iter().any(|r| OriginalRow(*r) == row)
 }
 
 // Whether a row's column is not below n, has a row already, or lacks this one.
