@@ -5,26 +5,27 @@ use Rattle.sparse.specs.declared.refusal.Refusal.{Refusal}
 use Rattle.sparse.specs.declared.refusal.Refusal.TheVariants.{TooLarge, Misshapen, RowOutside, RepeatedRow, NoRoom, EmptyColumn}
 use Rattle.sparse.specs.declared.refusal.Refusal.TheVariants.{Unmatchable, ColumnOutside, UnfitRow, MismatchedRow}
 
--- a refusal, its number and its place
-pub record Row : Type 0 where
+-- a line of the table: a refusal, its number and its place
+pub record Line : Type 0 where
   pub refusal : Refusal
   pub number : ℕ
   pub place : ℕ
 
-abbrev row : Refusal → ℕ → ℕ → Row
-row refusal number place = record { refusal = refusal; number = number; place = place }
+-- the line of these
+abbrev line : Refusal → ℕ → ℕ → Line
+line refusal number place = record { refusal = refusal; number = number; place = place }
 
 -- the table: a refusal that speaks of a place at that place, the others at 0
-abbrev pub table : ℕ → List Row
-table k =
-    row TooLarge 1 0
-    ∷ row Misshapen 2 0
-    ∷ row (RowOutside k) 3 k
-    ∷ row (RepeatedRow k) 4 k
-    ∷ row NoRoom 5 0
-    ∷ row (EmptyColumn (as_column k)) 8 k
-    ∷ row (Unmatchable (as_column k)) 9 k
-    ∷ row ColumnOutside 13 0
-    ∷ row (UnfitRow k) 14 k
-    ∷ row (MismatchedRow (as_row k)) 15 k
+abbrev pub refusal_table : ℕ → List Line
+refusal_table k =
+    line TooLarge 1 0
+    ∷ line Misshapen 2 0
+    ∷ line (RowOutside k) 3 k
+    ∷ line (RepeatedRow k) 4 k
+    ∷ line NoRoom 5 0
+    ∷ line (EmptyColumn (as_column k)) 8 k
+    ∷ line (Unmatchable (as_column k)) 9 k
+    ∷ line ColumnOutside 13 0
+    ∷ line (UnfitRow k) 14 k
+    ∷ line (MismatchedRow (as_row k)) 15 k
     ∷ []
