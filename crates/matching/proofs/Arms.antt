@@ -8,7 +8,7 @@ use Rattle.graph.proofs.Lists.{get_or_mem}
 use Rattle.sparse.specs.Limits.{max_size, max_entries}
 use Rattle.sparse.specs.Matrix.{RowsBelow}
 use Rattle.matching.specs.Parts.{col_at, Advance}
-use Rattle.matching.proofs.Places.{Passing, stop_free, stop_behind}
+use Rattle.matching.proofs.Places.{Passing, stop_free, stop_none, stop_behind}
 use Rattle.matching.proofs.Stamps.{length-stamped}
 use Rattle.matching.proofs.Stack.{Goal}
 use Rattle.matching.proofs.Walk.{Slices, Stage, entering, failing, finding, Walk, Scanning}
@@ -85,13 +85,22 @@ arm_free W l top own ne P z lq ee eb free ev eh er =
     (turn_free (at_top W l) (rw top at ne) (rw (own, z, top) at (stop_free P ee eb free))
     (rw (own, top) at lq))
 
--- it finds none
+-- it finds none, and the place behind the last row is kept
 pub arm_none : {g : Goal} {mark depth : ℕ} {v₀ h₀ cs₀ ps₀ v h cs ps r : List ℕ} {hit : Bool} {c : Col} {rs : List Row} {from q : ℕ}
+    {h₁ r₁ : List ℕ} {hit₁ : Bool} {v' h' : List ℕ} → Walk g mark v₀ h₀ cs₀ ps₀ v h cs ps r hit depth → 0 < depth
+    → c ≡ get_or cs (depth - 1) 0 → rs ≡ g.col c → get_or v c 0 ≢ mark → Passing g.n rs from h r hit h₁ r₁ hit₁ q → from ≡ get_or h c 0
+    → length rs ≤ q → v' ≡ set v c mark → h' ≡ set h₁ c (length rs) → Scanning g mark v₀ h₀ cs₀ ps₀ v' h' cs ps r₁ hit₁ (depth - 1) 0
+arm_none W l top own ne P z lq ev eh =
+    rw (ev, eh, P.cheap_same, P.matching_same, P.found_same, own, top)
+    (turn_none (at_top W l) (rw top at ne) (rw (own, z, top) at (stop_none P lq)) (omega arith))
+
+-- nor where it began further behind: the place that is kept does not go back
+pub arm_behind : {g : Goal} {mark depth : ℕ} {v₀ h₀ cs₀ ps₀ v h cs ps r : List ℕ} {hit : Bool} {c : Col} {rs : List Row} {from q : ℕ}
     {h₁ r₁ : List ℕ} {hit₁ : Bool} {v' h' : List ℕ} → Walk g mark v₀ h₀ cs₀ ps₀ v h cs ps r hit depth → 0 < depth
     → c ≡ get_or cs (depth - 1) 0 → rs ≡ g.col c → get_or v c 0 ≢ mark → Passing g.n rs from h r hit h₁ r₁ hit₁ q → from ≡ get_or h c 0
     → length rs ≤ q → v' ≡ set v c mark → h' ≡ set h₁ c (max (length rs) from)
     → Scanning g mark v₀ h₀ cs₀ ps₀ v' h' cs ps r₁ hit₁ (depth - 1) 0
-arm_none {rs = rs} {from = from} W l top own ne P z lq ev eh =
+arm_behind {rs = rs} {from = from} W l top own ne P z lq ev eh =
     rw (ev, eh, z, P.cheap_same, P.matching_same, P.found_same, own, top)
     (turn_none (at_top W l) (rw top at ne) (rw (own, z, top) at (stop_behind P lq)) (rw (own, z, top) at (le-max_left (length rs) from)))
 

@@ -1,5 +1,5 @@
 use Rattle.matching.proofs.Arms.{depth_below, column_below, rows_below, place_below, place_short, stamps_reach, scan_ready}
-use Rattle.matching.proofs.Arms.{arm_free, arm_none, arm_again, arm_back, arm_on, fall_free, fall_none, fall_again}
+use Rattle.matching.proofs.Arms.{arm_free, arm_behind, arm_again, arm_back, arm_on, fall_free, fall_none, fall_again}
 use Rattle.matching.proofs.Places.{pass_more}
 use Rattle.matching.proofs.Whole.{walk_begin, walk_done}
 use Rattle.std.proofs.Common.{◌+◌, length, sym, ap, ◌∙◌, arith}
@@ -74,7 +74,7 @@ put-requires-then-stamp-mark-2 c =
 
 pub advance-depth-requires : goal.advance-depth-requires
 advance-depth-requires c =
-    let R = scan_ready (arm_none c.dfs_loop.invariant c.dfs_loop-test.true c.get-c.ensures c.col_rows-col.ensures
+    let R = scan_ready (arm_behind c.dfs_loop.invariant c.dfs_loop-test.true c.get-c.ensures c.col_rows-col.ensures
     (λ e. c.if-stamp-mark.true (c.get-stamp.ensures ∙ e)) c.loop-k.invariant c.get-from.ensures c.loop-k-test.false
     c.put-then-stamp-mark.ensures (rw c.max.ensures at c.put-then-stamp-mark-2.ensures)) c.get-c.ensures c.col_rows-col.ensures
     c.args.mat.now.mat.shaped.small c.requires.short in
@@ -84,13 +84,13 @@ pub dfs_loop-smaller-then-stamp-mark : goal.dfs_loop-smaller-then-stamp-mark
 dfs_loop-smaller-then-stamp-mark c =
     fall_none c.dfs_loop.invariant c.dfs_loop-test.true c.get-c.ensures c.col_rows-col.ensures
     (λ e. c.if-stamp-mark.true (c.get-stamp.ensures ∙ e)) c.put-then-stamp-mark.ensures
-    (arm_none c.dfs_loop.invariant c.dfs_loop-test.true c.get-c.ensures c.col_rows-col.ensures
+    (arm_behind c.dfs_loop.invariant c.dfs_loop-test.true c.get-c.ensures c.col_rows-col.ensures
     (λ e. c.if-stamp-mark.true (c.get-stamp.ensures ∙ e)) c.loop-k.invariant c.get-from.ensures c.loop-k-test.false
     c.put-then-stamp-mark.ensures (rw c.max.ensures at c.put-then-stamp-mark-2.ensures)) c.advance-depth.ensures
 
 pub dfs_loop-preserved-then-stamp-mark : goal.dfs_loop-preserved-then-stamp-mark
 dfs_loop-preserved-then-stamp-mark c =
-    arm_on (arm_none c.dfs_loop.invariant c.dfs_loop-test.true c.get-c.ensures c.col_rows-col.ensures
+    arm_on (arm_behind c.dfs_loop.invariant c.dfs_loop-test.true c.get-c.ensures c.col_rows-col.ensures
     (λ e. c.if-stamp-mark.true (c.get-stamp.ensures ∙ e)) c.loop-k.invariant c.get-from.ensures c.loop-k-test.false
     c.put-then-stamp-mark.ensures (rw c.max.ensures at c.put-then-stamp-mark-2.ensures)) c.get-c.ensures c.col_rows-col.ensures
     c.advance-depth.ensures
