@@ -94,7 +94,7 @@ arm_none W l top own ne P z lq ev eh =
     rw (ev, eh, P.cheap_same, P.matching_same, P.found_same, own, top)
     (turn_none (at_top W l) (rw top at ne) (rw (own, z, top) at (stop_none P lq)) (omega arith))
 
--- nor where it began further behind: the place that is kept does not go back
+-- it finds none, and where it began behind the last row the place that is kept does not go back
 pub arm_behind : {g : Goal} {mark depth : ℕ} {v₀ h₀ cs₀ ps₀ v h cs ps r : List ℕ} {hit : Bool} {c : Col} {rs : List Row} {from q : ℕ}
     {h₁ r₁ : List ℕ} {hit₁ : Bool} {v' h' : List ℕ} → Walk g mark v₀ h₀ cs₀ ps₀ v h cs ps r hit depth → 0 < depth
     → c ≡ get_or cs (depth - 1) 0 → rs ≡ g.col c → get_or v c 0 ≢ mark → Passing g.n rs from h r hit h₁ r₁ hit₁ q → from ≡ get_or h c 0

@@ -51,7 +51,7 @@ pub stop_none : {n : ℕ} {rs : List Row} {from k : ℕ} {h₀ m₀ h m : List �
     → length rs ≤ k → FreePlace n m₀ rs from (length rs)
 stop_none P l = record { before = λ j a b. P.passed j a (omega arith); here = λ i. absurd (omega arith) }
 
--- nor where it began further behind, and then it does not go back
+-- behind the last row it has found none, and where it began further behind it does not go back
 pub stop_behind : {n : ℕ} {rs : List Row} {from k : ℕ} {h₀ m₀ h m : List ℕ} {hit₀ hit : Bool} → Passing n rs from h₀ m₀ hit₀ h m hit k
     → length rs ≤ k → FreePlace n m₀ rs from (max (length rs) from)
 stop_behind {n} {rs} {from} {k} P l = record {
